@@ -41,7 +41,7 @@ use Rattle.rdlpp_front.specs.Arguments.{Closes, ClosesString, IsClosedString, Is
 use Rattle.rdlpp_read.specs.declared.buffer.filling.Fill.TheVariants as fill
 use Rattle.rdlpp_read.specs.declared.files.File.{File}
 use Rattle.rdlpp_read.proofs.BufferTokens.{ends_line}
-use Rattle.rdlpp_front.specs.SourceItems.{HasString, IsDirective, IsUsage, LacksString, argument_name, usage_name}
+use Rattle.rdlpp_front.specs.SourceItems.{HasString, IsDirective, IsUsage, LacksArgument, argument_name, usage_name}
 use Rattle.rdlpp_front.specs.SourceLeft.{HoldsFront, source_left}
 use Rattle.rdlpp_front.proofs.TextLeft.{counted, not_counted, usage_text, usage_tokens}
 use Rattle.rdlpp_front.proofs.NamedDirectives.{GivenInFront, IsGiven, blank_lead, given_in_front_of, given_of, gone_blanks, gone_word, nothing_in_front_of, nothing_tokens, stands_bare, word_at, word_directive, word_token, word_tokens}
@@ -233,11 +233,11 @@ pub string_in_front_of : {R : Type 0} (unread : R → List ℕ) (b : BufferView 
 string_in_front_of unread b holds mode start stop has =
     let held = held_of b in
     let r = drop (length (directive_word Include)) held in
-    let k = has.to - has.from in
-    let g = has.given in
-    given_in_front_of Include unread b holds mode include_word has.word has.from has.to start stop g.some has.starts has.stops
-    (string_given b.line_bytes b.line b.bytes_left (rest_of unread b) r has.from k (EndsLine-drop (length (directive_word Include)) held (rest_of unread b) (ends_line unread b holds.ends)) g.space
-    (closed_string (drop has.from r) k g.string (omega (arith, g.some))))
+    let k = has.argument.to - has.argument.from in
+    let g = has.argument.given in
+    given_in_front_of Include unread b holds mode include_word has.word has.argument.from has.argument.to start stop g.some has.argument.starts has.argument.stops
+    (string_given b.line_bytes b.line b.bytes_left (rest_of unread b) r has.argument.from k (EndsLine-drop (length (directive_word Include)) held (rest_of unread b) (ends_line unread b holds.ends)) g.space
+    (closed_string (drop has.argument.from r) k g.found (omega (arith, g.some))))
 
 -- An `include` in front behind which no string stands that closes on its line.
 
@@ -393,7 +393,7 @@ module _ (most l room : ℕ) (rest : List ℕ) where
       lacks_blank r ends none lacks ∙ lacks_string r ends none at_zero
 
 -- an `include` without a string on its line in front
-pub no_string_in_front_of : {R : Type 0} (unread : R → List ℕ) (b : BufferView R) → HoldsFront b → b.mode ≡ Plain → LacksString (held_of b) → GivenInFront Include unread b None (length (directive_word Include))
+pub no_string_in_front_of : {R : Type 0} (unread : R → List ℕ) (b : BufferView R) → HoldsFront b → b.mode ≡ Plain → LacksArgument IsClosedString Include (held_of b) → GivenInFront Include unread b None (length (directive_word Include))
 no_string_in_front_of unread b holds mode lacks =
     let held = held_of b in
     let rest = rest_of unread b in

@@ -2,6 +2,7 @@
 use Rattle.std.proofs.Common.{◌≡◌, ◌≢◌, ℕ, suc, ◌-◌, ◌<◌, Bool, true, false, cond, List, [], ◌∷◌, length, take, drop, slice_index, refl, sym, ap, ◌∙◌, arith, Option, Some, None, subst, ◌+◌, ◌≤◌, not, ◌++◌, append-nil, inl, inr, eqb-true, drop-drop, length-drop, length-take-le}
 use Rattle.std.specs.List.{list_all, prefix_len}
 use Rattle.std.proofs.lemmas.Bool.{and_parts, cond_both, false≢true}
+use Rattle.std.proofs.lemmas.List.{drop-drop, length-drop, take_rest}
 use Rattle.rdlpp_scan.specs.Bytes.{begins_block_comment, begins_line_comment, begins_perl, is_blank, is_digit, is_letter, is_line_end, is_word, takes_word}
 use Rattle.rdlpp_scan.specs.Front.{Breach}
 use Rattle.rdlpp_scan.specs.Names.{IsWordBytes}
@@ -10,9 +11,9 @@ use Rattle.rdlpp_scan.specs.Resumed.{opening}
 use Rattle.rdlpp_scan.specs.SourceTokens.{Broken, Ordinary, SourceToken, line_ends, remaining_tokens}
 use Rattle.rdlpp_scan.specs.Tokens.{first_place, plain_len, plain_token, stops_plain_text, token_of, whole}
 use Rattle.rdlpp_scan.specs.declared.token.Directive.{Directive}
-use Rattle.rdlpp_scan.specs.declared.token.Directive.TheVariants.{Define, Include}
+use Rattle.rdlpp_scan.specs.declared.token.Directive.TheVariants.{Define}
 use Rattle.rdlpp_scan.specs.declared.token.Kind.{Kind}
-use Rattle.rdlpp_scan.specs.declared.token.Kind.TheVariants.{Back, BareBackquote, LineComment, Name, Perl}
+use Rattle.rdlpp_scan.specs.declared.token.Kind.TheVariants.{Back, BareBackquote, Blank, LineComment, Name, Perl}
 use Rattle.rdlpp_scan.specs.declared.token.Mode.{Mode}
 use Rattle.rdlpp_scan.specs.declared.token.Mode.TheVariants.{InBlock, InStr, Plain}
 use Rattle.rdlpp_scan.specs.declared.token.Token.{Token}
@@ -35,9 +36,9 @@ use Rattle.rdlpp_meaning.proofs.LiveText.{resumed_bare, resumed_broken, resumed_
 use Rattle.rdlpp_meaning.proofs.Outcomes.{after_bytes-nil, fails-goes_on}
 use Rattle.rdlpp_meaning.proofs.Skipping.{all_copied_skipped, resumed_skipped, resumed_skipped_broken, resumed_skipped_broken_parts, resumed_skipped_parts}
 use Rattle.rdlpp_read.specs.Buffer.{BufferView, ahead_of, entered_mode, held_of, rest_of, tokens_left}
-use Rattle.rdlpp_front.specs.Arguments.{IsLead, Lacks, Leads, NoString}
-use Rattle.rdlpp_front.specs.SourceItems.{AtOrdinary, AtToken, HasName, IsDirective, IsGivenString, IsNameAfter, IsNamed, IsStringAfter, IsText, IsUsage, StringAfter, argument_name, is_text_kind, usage_name}
-use Rattle.rdlpp_front.specs.declared.item.Argument.{Argument}
+use Rattle.rdlpp_front.specs.Arguments.{Found, IsLead, Lacks, Leads, NothingBehindBlanks}
+use Rattle.rdlpp_front.specs.SourceItems.{AtOrdinary, AtToken, HasArgument, IsAfter, IsArgumentOf, IsDirective, IsText, IsUsage, StandsAfter, argument_name, is_text_kind, usage_name}
+use Rattle.rdlpp_front.specs.declared.arguments.Argument.{Argument}
 
 -- What the bytes at the front of a text tell of its first token.
 
@@ -146,21 +147,34 @@ word_len d held some is =
     sym (length-take-le (token_of Plain held).len held (token_of-part Plain held some).inside) ∙ ap length is.word
 
 -- what stands behind the word of a directive is what it is given
-pub named_here : (own d : Directive) (held : List ℕ) (len : ℕ) (a : Option Argument) → own ≡ d → 0 < length held → IsDirective own held
-    → len ≡ (token_of Plain held).len → IsNameAfter len held a → IsNamed d held a
-named_here own d held len None same some is whole h = grind (arith, word_len)
-named_here own d held len (Some a) same some is whole h = grind (arith, word_len)
+pub given_here : (is : Found) (own d : Directive) (held : List ℕ) (len : ℕ) (a : Option Argument) → own ≡ d → 0 < length held → IsDirective own held
+    → len ≡ (token_of Plain held).len → IsAfter is len held a → IsArgumentOf is d held a
+given_here is own d held len None same some word whole h =
+    let at : IsDirective d held = subst (λ (x : Directive). IsDirective x held) same word in
+    record { word = at; none = subst (λ (n : ℕ). NothingBehindBlanks is (drop n held)) (whole ∙ word_len d held some at) h }
+given_here is own d held len (Some a) same some word whole h =
+    let at : IsDirective d held = subst (λ (x : Directive). IsDirective x held) same word in
+    record { word = at; argument = subst (λ (n : ℕ). StandsAfter is n held a.start a.stop) (whole ∙ word_len d held some at) h }
 
--- the string that stands behind the word of an `include` is what it is given
-pub string_here : (own : Directive) (held : List ℕ) (len : ℕ) (a : Option Argument) → own ≡ Include → 0 < length held → IsDirective own held
-    → len ≡ (token_of Plain held).len → IsStringAfter len held a → IsGivenString held a
-string_here own held len None same some is whole h =
-    let word : IsDirective Include held = subst (λ (x : Directive). IsDirective x held) same is in
-    record { word = word; none = subst (λ (n : ℕ). NoString (drop n held)) (whole ∙ word_len Include held some word) h }
-string_here own held len (Some a) same some is whole h =
-    let word : IsDirective Include held = subst (λ (x : Directive). IsDirective x held) same is in
-    let following : StringAfter (length (directive_word Include)) held a.start a.stop = subst (λ (n : ℕ). StringAfter n held a.start a.stop) (whole ∙ word_len Include held some word) h in
-    record { word = word; from = following.from; to = following.to; given = following.given; starts = following.starts; stops = following.stops }
+-- what is found behind blanks behind a word
+pub stands_there : (is : Found) (held : List ℕ) (word_len space len : ℕ) → word_len ≤ length held
+    → IsLead Blank (take (length held - word_len) (drop word_len held)) space → (len ≡ 0 → ⊥)
+    → is (take (length held - (word_len + space)) (drop (word_len + space) held)) len → word_len + space + len ≤ length held
+    → StandsAfter is word_len held (word_len + space) (word_len + space + len)
+stands_there is held word_len space len fits lead some found inside =
+    let size : len ≡ space + len - space = omega arith in
+    record {
+      from = space;
+      to = space + len;
+      given = record {
+        space = subst (λ (l : List ℕ). IsLead Blank l space) (take_rest held word_len) lead;
+        some = omega (arith, some);
+        found = subst (λ (l : List ℕ). is l (space + len - space)) (take_rest held (word_len + space) ∙ sym (drop-drop space word_len held)) (subst (is _) size found);
+        inside = omega (arith, length-drop word_len held);
+      };
+      starts = refl;
+      stops = omega arith;
+    }
 
 -- Where fronts lie in what is held: their bounds, their line ends, and the bytes of their names.
 
@@ -180,7 +194,7 @@ word_some Define = omega arith
 word_some _ = omega arith
 
 -- a directive with its name
-pub name_inside : (d : Directive) (held : List ℕ) (start stop : ℕ) → HasName d held start stop → (0 < start) × (start < stop) × (stop ≤ length held)
+pub name_inside : (d : Directive) (held : List ℕ) (start stop : ℕ) → HasArgument (IsLead Name) d held start stop → (0 < start) × (start < stop) × (stop ≤ length held)
 name_inside d held start stop has = grind (arith, length-drop, word_some)
 
 -- the name of a usage is a word
@@ -199,7 +213,7 @@ lead_word bytes n (Leads some is len) =
 lead_word bytes n (Lacks other zero_is) = rw zero_is refl
 
 -- the name of a directive is a word
-pub name_word : (d : Directive) (held : List ℕ) (start stop : ℕ) → HasName d held start stop → IsWordBytes (argument_name held start stop)
+pub name_word : (d : Directive) (held : List ℕ) (start stop : ℕ) → HasArgument (IsLead Name) d held start stop → IsWordBytes (argument_name held start stop)
 name_word d held start stop has = grind (arith, drop-drop, lead_word)
 
 -- Fronts where no text is copied.

@@ -30,9 +30,9 @@ use Rattle.rdlpp_read.specs.Files.{consumed_file}
 use Rattle.rdlpp_read.specs.declared.files.File.{File}
 use Rattle.rdlpp_read.proofs.BufferTokens.{ends_line}
 use Rattle.rdlpp_front.specs.Arguments.{IsLead, Leads, Lacks}
-use Rattle.rdlpp_front.specs.SourceItems.{HasName, IsDirective, IsNamed, LacksName, argument_name, given_by, given_len}
+use Rattle.rdlpp_front.specs.SourceItems.{HasArgument, IsDirective, IsNamed, LacksArgument, argument_name, given_by, given_len}
 use Rattle.rdlpp_front.specs.SourceLeft.{HoldsFront, source_left}
-use Rattle.rdlpp_front.specs.declared.item.Argument.{Argument as Given}
+use Rattle.rdlpp_front.specs.declared.arguments.Argument.{Argument as Given}
 use Rattle.rdlpp_front.proofs.Insides.{name_inside, tokens_used, used_buffer, word_len}
 use Rattle.rdlpp_front.proofs.TextLeft.{back_tokens, file_moves}
 
@@ -252,8 +252,8 @@ bare_word d e = cc
 
 -- the held bytes begin with a directive: what it is given, and how many bytes it has with that
 pub data Begins (d : Directive) (held : List ℕ) : Option (List ℕ) → ℕ → Type 0 where
-  Named : (start stop : ℕ) → wants_name d ≡ true → HasName d held start stop → Begins d held (Some (argument_name held start stop)) stop
-  Nameless : wants_name d ≡ true → LacksName d held → Begins d held None (length (directive_word d))
+  Named : (start stop : ℕ) → wants_name d ≡ true → HasArgument (IsLead Name) d held start stop → Begins d held (Some (argument_name held start stop)) stop
+  Nameless : wants_name d ≡ true → LacksArgument (IsLead Name) d held → Begins d held None (length (directive_word d))
   Bare : stands_bare d ≡ true → IsDirective d held → Begins d held None (length (directive_word d))
 
 -- where it wants a name
@@ -354,12 +354,12 @@ module _ {R : Type 0} (d : Directive) (unread : R → List ℕ) (b : BufferView 
       let held = held_of b in
       let rest = rest_of unread b in
       let r = drop (length (directive_word d)) held in
-      let from = has.name.from in
-      let g = has.name.given in
+      let from = has.argument.from in
+      let g = has.argument.given in
       let ends = ends_line unread b holds.ends in
-      let lead = lead_name (drop from r) (has.name.to - from) g.name (omega (arith, g.some)) in
-      given_in_front_of (wants_word d wants) has.word from has.name.to start stop g.some has.name.starts has.name.stops
-      (after_given b.line_bytes b.line b.bytes_left rest d wants r from (has.name.to - from) (EndsLine-drop (length (directive_word d)) held rest ends)
+      let lead = lead_name (drop from r) (has.argument.to - from) g.found (omega (arith, g.some)) in
+      given_in_front_of (wants_word d wants) has.word from has.argument.to start stop g.some has.argument.starts has.argument.stops
+      (after_given b.line_bytes b.line b.bytes_left rest d wants r from (has.argument.to - from) (EndsLine-drop (length (directive_word d)) held rest ends)
       (gone_word d held rest holds.some ends has.word) g.space lead.0 lead.1 lead.2)
   in_front_of _ _ (Nameless wants lacks) =
       let held = held_of b in

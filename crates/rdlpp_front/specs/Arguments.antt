@@ -6,10 +6,9 @@ use Rattle.rdlpp_scan.specs.Lines.{ended_line_len}
 use Rattle.rdlpp_scan.specs.Tokens.{token_of}
 use Rattle.rdlpp_scan.specs.SourceTokens.{line_len}
 use Rattle.rdlpp_scan.specs.declared.token.Kind.{Kind}
-use Rattle.rdlpp_scan.specs.declared.token.Kind.TheVariants.{Blank, Name, Str}
+use Rattle.rdlpp_scan.specs.declared.token.Kind.TheVariants.{Blank, Str}
 use Rattle.rdlpp_scan.specs.declared.token.Mode.TheVariants.{Plain}
 use Rattle.rdlpp_meaning.specs.Meaning.{digits_value, renumbered, renumbered_name}
-use Rattle.rdlpp_front.specs.declared.arguments.Given.{Given}
 use Rattle.rdlpp_front.specs.declared.arguments.line.GivenLine.{GivenLine}
 
 -- the first token of a text, where it is of a kind: how long it is; 0 where it isn't
@@ -30,41 +29,22 @@ pub data IsClosedString (bytes : List ℕ) (len : ℕ) : Type 0 where
   Closes : ClosesString bytes len → IsClosedString bytes len
   Opens : ((n : ℕ) → ClosesString bytes n → ⊥) → len ≡ 0 → IsClosedString bytes len
 
--- behind blanks stands a name (IEEE 1364-2001, compiler directives)
-pub record NameGiven (bytes : List ℕ) (start stop : ℕ) : Type 0 where
+-- what a kind of thing tells of a text: how long the one at its front is, or 0 where there is none
+abbrev pub Found : Type 1
+Found = List ℕ → ℕ → Type 0
+
+-- behind blanks stands such a thing, from a place up to another (IEEE 1364-2001, compiler directives)
+pub record BehindBlanks (is : Found) (bytes : List ℕ) (start stop : ℕ) : Type 0 where
   pub space : IsLead Blank bytes start
   pub some : start < stop
-  pub name : IsLead Name (drop start bytes) (stop - start)
+  pub found : is (drop start bytes) (stop - start)
   pub inside : stop ≤ length bytes
 
--- behind blanks stands no name
-pub record NoName (bytes : List ℕ) : Type 0 where
+-- behind blanks stands none
+pub record NothingBehindBlanks (is : Found) (bytes : List ℕ) : Type 0 where
   pub start : ℕ
   pub space : IsLead Blank bytes start
-  pub none : IsLead Name (drop start bytes) 0
-
--- the name that a directive is given (IEEE 1364-2001, compiler directives)
-abbrev pub IsNameGiven : Option Given → List ℕ → Type 0
-IsNameGiven None bytes = NoName bytes
-IsNameGiven (Some given) bytes = NameGiven bytes given.start given.stop
-
--- behind blanks stands a string that closes on its line (IEEE 1364-2001, `include`)
-pub record StringGiven (bytes : List ℕ) (start stop : ℕ) : Type 0 where
-  pub space : IsLead Blank bytes start
-  pub some : start < stop
-  pub string : IsClosedString (drop start bytes) (stop - start)
-  pub inside : stop ≤ length bytes
-
--- behind blanks stands no such string
-pub record NoString (bytes : List ℕ) : Type 0 where
-  pub start : ℕ
-  pub space : IsLead Blank bytes start
-  pub none : IsClosedString (drop start bytes) 0
-
--- the string that a directive is given (IEEE 1364-2001, `include`)
-abbrev pub IsStringGiven : Option Given → List ℕ → Type 0
-IsStringGiven None bytes = NoString bytes
-IsStringGiven (Some given) bytes = StringGiven bytes given.start given.stop
+  pub none : is (drop start bytes) 0
 
 -- the number and the name that the line at the front of a text gives, and how long that line is (IEEE 1364-2001, `line`)
 pub record LineGiven (bytes : List ℕ) (given : GivenLine) : Type 0 where

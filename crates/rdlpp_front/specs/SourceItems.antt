@@ -5,15 +5,15 @@ use Rattle.rdlpp_scan.specs.Reserved.{directive_word, is_reserved}
 use Rattle.rdlpp_scan.specs.declared.token.Mode.{Mode}
 use Rattle.rdlpp_scan.specs.declared.token.Mode.TheVariants.{Plain}
 use Rattle.rdlpp_scan.specs.declared.token.Kind.{Kind}
-use Rattle.rdlpp_scan.specs.declared.token.Kind.TheVariants.{Back, BareBackquote, BlockComment, LineComment, Perl, Str}
+use Rattle.rdlpp_scan.specs.declared.token.Kind.TheVariants.{Back, BareBackquote, BlockComment, LineComment, Name, Perl, Str}
 use Rattle.rdlpp_scan.specs.declared.token.Directive.{Directive}
 use Rattle.rdlpp_scan.specs.declared.token.Directive.TheVariants as directive
 use Rattle.rdlpp_scan.specs.Tokens.{token_of, plain_len}
 use Rattle.rdlpp_meaning.specs.declared.fault.FaultKind.{FaultKind}
 use Rattle.rdlpp_meaning.specs.declared.fault.FaultKind.TheVariants as fault
 use Rattle.rdlpp_meaning.specs.Meaning.{Checked, NameFault, Fine, unquoted}
-use Rattle.rdlpp_front.specs.Arguments.{NameGiven, NoName, NoString, StringGiven}
-use Rattle.rdlpp_front.specs.declared.item.Argument.{Argument}
+use Rattle.rdlpp_front.specs.Arguments.{BehindBlanks, Found, IsClosedString, IsLead, NothingBehindBlanks}
+use Rattle.rdlpp_front.specs.declared.arguments.Argument.{Argument}
 use Rattle.rdlpp_front.specs.declared.item.SourceItem.{SourceItem}
 use Rattle.rdlpp_front.specs.declared.item.SourceItem.TheVariants.{Text, Usage, Define, Undef, Ifdef, Ifndef, Elsif, Else, Endif, Include, Line, Refused}
 
@@ -44,65 +44,45 @@ pub record IsDirective (d : Directive) (held : List ℕ) : Type 0 where
   pub kind : (token_of Plain held).kind ≡ Back
   pub word : take (token_of Plain held).len held ≡ directive_word d
 
--- behind the word of a directive, which has so many bytes, a name stands from a place up to another
-pub record NameAfter (word_len : ℕ) (held : List ℕ) (start stop : ℕ) : Type 0 where
+-- behind the word of a directive, which has so many bytes, a thing of a kind stands from a place up to another
+pub record StandsAfter (is : Found) (word_len : ℕ) (held : List ℕ) (start stop : ℕ) : Type 0 where
   pub from : ℕ
   pub to : ℕ
-  pub given : NameGiven (drop word_len held) from to
+  pub given : BehindBlanks is (drop word_len held) from to
   pub starts : start ≡ word_len + from
   pub stops : stop ≡ word_len + to
 
--- the name behind the word of a directive, if one stands there
-abbrev pub IsNameAfter : ℕ → List ℕ → Option Argument → Type 0
-IsNameAfter word_len held None = NoName (drop word_len held)
-IsNameAfter word_len held (Some a) = NameAfter word_len held a.start a.stop
+-- one stands there, or none
+abbrev pub IsAfter : Found → ℕ → List ℕ → Option Argument → Type 0
+IsAfter is word_len held None = NothingBehindBlanks is (drop word_len held)
+IsAfter is word_len held (Some a) = StandsAfter is word_len held a.start a.stop
 
--- a directive with its name, which stands from a place up to another (IEEE 1364-2001, compiler directives)
-pub record HasName (d : Directive) (held : List ℕ) (start stop : ℕ) : Type 0 where
+-- a directive with what it is given, which stands from a place up to another (IEEE 1364-2001, compiler directives)
+pub record HasArgument (is : Found) (d : Directive) (held : List ℕ) (start stop : ℕ) : Type 0 where
   pub word : IsDirective d held
-  pub name : NameAfter (length (directive_word d)) held start stop
+  pub argument : StandsAfter is (length (directive_word d)) held start stop
 
--- a directive behind which no name stands
-pub record LacksName (d : Directive) (held : List ℕ) : Type 0 where
+-- a directive that is given nothing of the kind
+pub record LacksArgument (is : Found) (d : Directive) (held : List ℕ) : Type 0 where
   pub word : IsDirective d held
-  pub none : NoName (drop (length (directive_word d)) held)
+  pub none : NothingBehindBlanks is (drop (length (directive_word d)) held)
+
+-- a directive, and what it is given
+abbrev pub IsArgumentOf : Found → Directive → List ℕ → Option Argument → Type 0
+IsArgumentOf is d held None = LacksArgument is d held
+IsArgumentOf is d held (Some a) = HasArgument is d held a.start a.stop
 
 -- a directive that wants a name, and the name that it is given (IEEE 1364-2001, compiler directives)
 abbrev pub IsNamed : Directive → List ℕ → Option Argument → Type 0
-IsNamed d held None = LacksName d held
-IsNamed d held (Some a) = HasName d held a.start a.stop
+IsNamed = IsArgumentOf (IsLead Name)
 
--- behind the word of a directive, which has so many bytes, a string stands that closes on its line, from a place up to another
-pub record StringAfter (word_len : ℕ) (held : List ℕ) (start stop : ℕ) : Type 0 where
-  pub from : ℕ
-  pub to : ℕ
-  pub given : StringGiven (drop word_len held) from to
-  pub starts : start ≡ word_len + from
-  pub stops : stop ≡ word_len + to
+-- an `include` with its string, which closes on its line (IEEE 1364-2001, `include`)
+abbrev pub HasString : List ℕ → ℕ → ℕ → Type 0
+HasString = HasArgument IsClosedString directive.Include
 
--- the string behind the word of a directive, if one stands there
-abbrev pub IsStringAfter : ℕ → List ℕ → Option Argument → Type 0
-IsStringAfter word_len held None = NoString (drop word_len held)
-IsStringAfter word_len held (Some a) = StringAfter word_len held a.start a.stop
-
--- an `include` with its string, which stands from a place up to another (IEEE 1364-2001, `include`)
-pub record HasString (held : List ℕ) (start stop : ℕ) : Type 0 where
-  pub word : IsDirective directive.Include held
-  pub from : ℕ
-  pub to : ℕ
-  pub given : StringGiven (drop (length (directive_word directive.Include)) held) from to
-  pub starts : start ≡ length (directive_word directive.Include) + from
-  pub stops : stop ≡ length (directive_word directive.Include) + to
-
--- an `include` behind which no string stands that closes on its line
-pub record LacksString (held : List ℕ) : Type 0 where
-  pub word : IsDirective directive.Include held
-  pub none : NoString (drop (length (directive_word directive.Include)) held)
-
--- an `include`, and the string that it is given (IEEE 1364-2001, `include`)
+-- an `include`, and the string that it is given
 abbrev pub IsGivenString : List ℕ → Option Argument → Type 0
-IsGivenString held None = LacksString held
-IsGivenString held (Some a) = HasString held a.start a.stop
+IsGivenString = IsArgumentOf IsClosedString directive.Include
 
 -- what a directive is given
 abbrev pub argument_name : List ℕ → ℕ → ℕ → List ℕ

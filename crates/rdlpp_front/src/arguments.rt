@@ -1,61 +1,53 @@
 // What a directive is given behind its word.
 ghost use Rattle.std.specs.Prelude.{◌≡◌, ◌≤◌, length};
-ghost use Rattle.rdlpp_front.specs.Arguments.{IsClosedString, IsLead, IsNameGiven, IsStringGiven};
+ghost use Rattle.rdlpp_front.specs.Arguments.{IsClosedString, IsLead};
+ghost use Rattle.rdlpp_front.specs.SourceItems.{IsAfter};
 
 mod line;
 
 pub use line::{GivenLine, given_line};
 use rdlpp_scan::{Kind, Mode, first_token, rest_of_line};
 
-/// Where what a directive is given stands, counted in bytes from behind its word.
+/// Where what a directive is given stands in held bytes that begin with the directive.
 #[derive(Clone, Copy, Debug, PartialEq, Eq)]
-pub struct Given {
+pub struct Argument {
     /// The place of its first byte.
     pub start: usize,
-    /// The place behind its last byte, and behind what the directive takes.
+    /// The place behind its last byte, and behind the directive.
     pub stop: usize,
 }
 
-/// The name that stands, behind blanks or at once, in `bytes`, as after the word of an `undef`,
-/// `ifdef`, `ifndef` or `elsif`; `None` where none stands there on the same line.
-///
-/// `bytes` are what is held behind the word: they end at a line end or where the text ends.
-///
-/// # Rules
-///
-/// IEEE 1364-2001, compiler directives; that the name stands on the same line is this project's
-/// profile.
-pub fn given_name(bytes: &[u8]) -> Option<Given>
-    ensures { IsNameGiven result bytes.now }
+// The name that stands, behind blanks or at once, behind the word of an `undef`, `ifdef`, `ifndef` or `elsif`, which has so many
+// bytes; `None` where none stands there on the same line. The held bytes end at a line end or where the text ends.
+// IEEE 1364-2001, compiler directives; that the name stands on the same line is this project's profile.
+pub fn name_after(held: &[u8], word_len: usize) -> Option<Argument>
+    requires { word_len ≤ length held.now }
+    ensures { IsAfter (IsLead Kind.Name) word_len held.now result }
 {
-    let start = lead_of(Kind::Blank, bytes);
-    let len = lead_of(Kind::Name, &bytes[start..]);
+    let start = word_len + lead_of(Kind::Blank, &held[word_len..]);
+    let len = lead_of(Kind::Name, &held[start..]);
     if len == 0 {
         return None;
     }
-    Some(Given {
+    Some(Argument {
         start,
         stop: start + len,
     })
 }
 
-/// The string that stands, behind blanks or at once, in `bytes`, as after the word of an `include`,
-/// with its quotes; `None` where none stands there that closes on the same line.
-///
-/// `bytes` are what is held behind the word: they end at a line end or where the text ends.
-///
-/// # Rules
-///
-/// IEEE 1364-2001, `include`; that the string closes on the same line is this project's profile.
-pub fn given_string(bytes: &[u8]) -> Option<Given>
-    ensures { IsStringGiven result bytes.now }
+// The string that stands, behind blanks or at once, behind the word of an `include`, which has so many bytes, with its quotes;
+// `None` where none stands there that closes on the same line. The held bytes end at a line end or where the text ends.
+// IEEE 1364-2001, `include`; that the string closes on the same line is this project's profile.
+pub fn string_after(held: &[u8], word_len: usize) -> Option<Argument>
+    requires { word_len ≤ length held.now }
+    ensures { IsAfter IsClosedString word_len held.now result }
 {
-    let start = lead_of(Kind::Blank, bytes);
-    let len = closed_string(&bytes[start..]);
+    let start = word_len + lead_of(Kind::Blank, &held[word_len..]);
+    let len = closed_string(&held[start..]);
     if len == 0 {
         return None;
     }
-    Some(Given {
+    Some(Argument {
         start,
         stop: start + len,
     })

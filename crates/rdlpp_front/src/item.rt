@@ -3,22 +3,13 @@ ghost use Rattle.std.specs.Prelude.{◌≡◌, ◌≢◌, ◌<◌, ◌≤◌, le
 ghost use Rattle.rdlpp_scan.specs.Tokens.{stops_plain_text, token_of};
 ghost use Rattle.rdlpp_scan.specs.declared.token.Kind.TheVariants.{Back};
 ghost use Rattle.rdlpp_scan.specs.declared.token.Mode.TheVariants.{Plain};
-ghost use Rattle.rdlpp_front.specs.SourceItems.{IsDirective, IsSourceItem, IsNameAfter, IsStringAfter};
+ghost use Rattle.rdlpp_front.specs.SourceItems.{IsDirective, IsSourceItem};
 
-use crate::arguments::{given_name, given_string};
+use crate::arguments::{Argument, name_after, string_after};
 use rdlpp_meaning::FaultKind;
 use rdlpp_scan::{
     Directive, Kind, Mode, byte_at, first_token, is_letter, plain_text_len, reserved, word_bytes,
 };
-
-/// Where what a directive is given stands in held bytes that begin with the directive.
-#[derive(Clone, Copy, Debug, PartialEq, Eq)]
-pub struct Argument {
-    /// The place of its first byte.
-    pub start: usize,
-    /// The place behind its last byte, and behind the directive.
-    pub stop: usize,
-}
 
 /// What the held bytes of a source begin with.
 #[derive(Clone, Copy, Debug, PartialEq, Eq)]
@@ -146,28 +137,4 @@ fn directive_item(held: &[u8], len: usize, directive: Directive) -> SourceItem
         Directive::Include => SourceItem::Include(string_after(held, len)),
         Directive::Line => SourceItem::Line,
     }
-}
-
-// The name that stands behind a directive's word, which has so many bytes.
-fn name_after(held: &[u8], len: usize) -> Option<Argument>
-    requires { len ≤ length held.now }
-    ensures { IsNameAfter len held.now result }
-{
-    let given = given_name(&held[len..])?;
-    Some(Argument {
-        start: len + given.start,
-        stop: len + given.stop,
-    })
-}
-
-// The string that stands behind a directive's word, which has so many bytes, and closes on its line.
-fn string_after(held: &[u8], len: usize) -> Option<Argument>
-    requires { len ≤ length held.now }
-    ensures { IsStringAfter len held.now result }
-{
-    let string = given_string(&held[len..])?;
-    Some(Argument {
-        start: len + string.start,
-        stop: len + string.stop,
-    })
 }

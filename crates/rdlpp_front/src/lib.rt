@@ -7,7 +7,7 @@ mod copied;
 mod item;
 mod skipped_text;
 
-pub use arguments::{GivenLine, given_line};
+pub use arguments::{Argument, GivenLine, given_line};
 pub use copied::{Copied, copied_text};
-pub use item::{Argument, SourceItem, next_item};
+pub use item::{SourceItem, next_item};
 pub use skipped_text::{SkippedText, skip_text};

@@ -16,7 +16,7 @@ use Rattle.rdlpp_read.specs.Buffer.{held_of, opened_buffer, unused_of}
 use Rattle.rdlpp_read.specs.Files.{FilesView, consumed_file, entered_file, inner_buffer, with_inner}
 use Rattle.rdlpp_read.specs.declared.files.File.{File}
 use Rattle.rdlpp_front.specs.SourceItems.{IsNamed, given_by, given_len, given_name}
-use Rattle.rdlpp_front.specs.declared.item.Argument.{Argument}
+use Rattle.rdlpp_front.specs.declared.arguments.Argument.{Argument}
 use Rattle.rdlpp_front.proofs.NamedDirectives.{Begins, begins_token, begins_within, in_front_of, named_begins}
 use Rattle.rdlpp_state.specs.Calls.{SourcesCalled}
 use Rattle.rdlpp_state.specs.Engine.{EngineView}

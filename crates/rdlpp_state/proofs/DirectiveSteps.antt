@@ -34,7 +34,7 @@ use Rattle.rdlpp_read.specs.declared.files.File.{File}
 use Rattle.rdlpp_read.proofs.Growing.{line_ends_le}
 use Rattle.rdlpp_read.proofs.BufferTokens.{slides-told}
 use Rattle.rdlpp_front.specs.SourceItems.{AtBare, AtPerl, IsDirective, IsGivenString, IsNamed, IsRefused, IsText, given_by, given_len, given_name}
-use Rattle.rdlpp_front.specs.declared.item.Argument.{Argument}
+use Rattle.rdlpp_front.specs.declared.arguments.Argument.{Argument}
 use Rattle.rdlpp_front.proofs.DirectivesLeft.{end_bare, opening_wants}
 use Rattle.rdlpp_front.proofs.TextLeft.{line_inside}
 use Rattle.rdlpp_front.proofs.Insides.{held_entered, name_inside, text_inside, usage_inside}

@@ -34,7 +34,8 @@ use Rattle.rdlpp_read.specs.Filling.{Fills, ended_tokens, only_broken}
 use Rattle.rdlpp_read.specs.declared.buffer.filling.Fill.TheVariants as fill
 use Rattle.rdlpp_read.specs.declared.files.File.{File}
 use Rattle.rdlpp_read.proofs.BufferTokens.{ended-text}
-use Rattle.rdlpp_front.specs.SourceItems.{HasString, LacksString, include_name, argument_name}
+use Rattle.rdlpp_front.specs.Arguments.{IsClosedString}
+use Rattle.rdlpp_front.specs.SourceItems.{HasString, LacksArgument, include_name, argument_name}
 use Rattle.rdlpp_front.specs.SourceLeft.{source_left, HoldsFront}
 use Rattle.rdlpp_front.proofs.TextLeft.{ended_left}
 use Rattle.rdlpp_front.proofs.DirectivesLeft.{include_word, no_string_in_front_of, string_in_front_of}
@@ -102,10 +103,10 @@ module _ {R : Type 0} (limits : Limits) (rules : Rules) (unread : R → List ℕ
 pub string_inside : (held : List ℕ) (start stop : ℕ) → HasString held start stop → (start < stop) × (stop ≤ length held)
 string_inside held start stop has =
     let n = length (directive_word Include) in
-    let given = has.given in
-    let starts = has.starts in
-    let stops = has.stops in
-    let inside : n + has.to ≤ length held = omega (arith, given.inside, given.some, length-drop n held) in
+    let given = has.argument.given in
+    let starts = has.argument.starts in
+    let stops = has.argument.stops in
+    let inside : n + has.argument.to ≤ length held = omega (arith, given.inside, given.some, length-drop n held) in
     (omega (arith, given.some), omega arith)
 
 -- the state of the innermost source
@@ -149,7 +150,7 @@ module _ {S R : Type 0} (g : Ghosts S R) (e : EngineView S R) (ready : IsReady e
       (front_moves e.limits rules g.unread e.table.macros e.conditions e.files.include_stack Include given len (record { some = some; ends = front.ends; plain = plain }) include_word i)
 
   -- behind which no string stands that closes on its line
-  pub left_nameless_include : LacksString (held_of (inner_buffer e.files.include_stack)) → Fails g e IncludeName (inner_buffer e.files.include_stack).line []
+  pub left_nameless_include : LacksArgument IsClosedString Include (held_of (inner_buffer e.files.include_stack)) → Fails g e IncludeName (inner_buffer e.files.include_stack).line []
   unfolding state_of include_move
   left_nameless_include lacks =
       include_comes None (length (directive_word Include)) (Stops IncludeName []) (no_string_in_front_of g.unread (inner_buffer e.files.include_stack) front plain lacks) refl

@@ -16,7 +16,7 @@ use Rattle.rdlpp_conditions.specs.Moves.{opened_with}
 use Rattle.rdlpp_read.specs.Files.{consumed_file, inner_buffer, with_inner}
 use Rattle.rdlpp_front.specs.SkippedText.{counts}
 use Rattle.rdlpp_front.specs.SourceItems.{IsDirective, IsNamed, IsUsage}
-use Rattle.rdlpp_front.specs.declared.item.Argument.{Argument}
+use Rattle.rdlpp_front.specs.declared.arguments.Argument.{Argument}
 use Rattle.rdlpp_state.specs.Engine.{EngineView}
 use Rattle.rdlpp_state.specs.OpenConditionals.{inner_shown}
 use Rattle.rdlpp_state.specs.Pending.{line_ends_pending}

@@ -4,7 +4,7 @@ use Rattle.rdlpp_meaning.specs.declared.fault.FaultKind.TheVariants.{NameExpecte
 use Rattle.rdlpp_read.specs.Buffer.{held_of}
 use Rattle.rdlpp_read.specs.Files.{inner_buffer}
 use Rattle.rdlpp_front.specs.SourceItems.{IsNamed, argument_name, given_name}
-use Rattle.rdlpp_front.specs.declared.item.Argument.{Argument}
+use Rattle.rdlpp_front.specs.declared.arguments.Argument.{Argument}
 use Rattle.rdlpp_front.proofs.Insides.{name_word}
 use Rattle.rdlpp_state.specs.Moves.{LooksAtName}
 use Rattle.rdlpp_state.proofs.FrontSteps.{kept_cut}
