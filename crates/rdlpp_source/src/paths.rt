@@ -20,7 +20,8 @@ pub fn joined_path(folder: &str, name: &str) -> Option<ArrayString<1024>>
     ensures { MatchOption result (1024 < length (joined_path folder.now name.now))
         (λ path. path.bytes ≡ joined_path folder.now name.now) }
 {
-    let mut path = ArrayString::from(folder).ok()?;
+    let mut path = ArrayString::new();
+    path.try_push_str(folder).ok()?;
     if !folder.is_empty() && !folder.ends_with('/') {
         path.try_push('/').ok()?;
     }

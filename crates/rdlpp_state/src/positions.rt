@@ -79,6 +79,17 @@ impl Marks {
         }
     }
 
+    /// They are those of an engine that has lent nothing.
+    #[tactic(auto, unfolding(crate::specs::Marks::no_marks))]
+    pub fn clear(&mut self)
+        ensures { self.new ≡ no_marks }
+    {
+        self.lent = Lent::Nothing;
+        self.ending = false;
+        self.name.clear();
+        self.line = 0;
+    }
+
     /// A piece is lent that begins on a physical line of the innermost source.
     #[tactic(auto, unfolding(crate::specs::Marks::lends_line))]
     pub fn lend_line(&mut self, line: u64)

@@ -132,23 +132,27 @@ impl<S: Sources> Engine<S> {
         self.phase = Phase::Open;
         self.quota = self.limits.output_bytes;
         self.kept = None;
-        self.main = cut_name(path);
+        set_cut(&mut self.main, path);
         self.pending = Pending::nothing();
         self.pending.queue_origin(self.origins, 1);
         let source_bytes = self.limits.source_bytes;
         self.files.enter(found, source_bytes, 0, 0);
     }
 
-    // Keeps a fault of the opening of the main text.
+    // Keeps a fault of the opening of the main text. It stands apart, so that an opening has no room for it.
+    #[cold]
+    #[inline(never)]
     #[tactic(auto, unfolding(rdlpp_state::specs::Opening::unopened_engine, rdlpp_meaning::specs::Output::opening_fault, rdlpp_meaning::specs::Outcome::report_of))]
     fn record_main_fault(&mut self, kind: FaultKind, path: &str) -> Fault
         requires { self.old.phase ≡ Phase.Fresh }
         ensures fault { report_of result ≡ opening_fault kind path.now }
         ensures kept { self.new ≡ unopened_engine self.old (opening_fault kind path.now) }
     {
+        let mut name = ArrayString::new();
+        set_cut(&mut name, path);
         let fault = Fault {
             kind,
-            name: cut_name(path),
+            name,
             line: 0,
             word: ArrayString::new(),
         };
@@ -158,14 +162,13 @@ impl<S: Sources> Engine<S> {
     }
 }
 
-// The first 1,024 bytes of a name, or fewer at a character's boundary.
-fn cut_name(name: &str) -> ArrayString<1024>
-    ensures { result.bytes ≡ name_cut name.now }
+// Sets a text to the first 1,024 bytes of a name, or fewer at a character's boundary.
+fn set_cut(cut: &mut ArrayString<1024>, name: &str)
+    ensures { cut.new.bytes ≡ name_cut name.now }
 {
-    let mut cut = ArrayString::new();
     let kept = name.floor_char_boundary(SHOWN_BYTES);
+    cut.clear();
     cut.push_str(&name[..kept]);
-    cut
 }
 
 // The kind of fault that a source's refusal is told as.

@@ -5,7 +5,7 @@ ghost use Rattle.rdlpp_state.specs.Opening.{fresh_engine};
 use super::Engine;
 use arrayvec::ArrayString;
 use rdlpp_source::Sources;
-use rdlpp_state::{Marks, Pending, Phase};
+use rdlpp_state::{Pending, Phase};
 use std::mem;
 
 impl<S: Sources> Engine<S> {
@@ -25,7 +25,7 @@ impl<S: Sources> Engine<S> {
         self.kept = None;
         self.main.clear();
         self.pending = Pending::nothing();
-        self.marks = Marks::new();
+        self.marks.clear();
         self.taken = 0;
         self.defined = None;
         self.table.clear();
