@@ -1,11 +1,11 @@
 // Bodies in one piece: texts with neither a `\` nor a `/`, in which no continuation and no comment stands.
 ghost use Rattle.std.specs.Prelude.{false, length, take, vec_capacity, vec_len, ◌+◌, ◌++◌, ◌≡◌, ◌≤◌};
-ghost use Rattle.std.specs.List.{prefix_len};
 ghost use Rattle.rdlpp_lines.specs.OnePiece.{is_one_piece};
 ghost use Rattle.rdlpp_lines.specs.Texts.{trimmed_of, trims, without_end};
 
 use crate::reading::trims;
 use memchr::memchr2;
+use rdlpp_scan::blanks;
 
 // Whether a text has neither a `\` nor a `/`.
 pub(crate) fn is_one_piece(text: &[u8]) -> bool
@@ -15,14 +15,6 @@ pub(crate) fn is_one_piece(text: &[u8]) -> bool
         Some(_) => false,
         None => true,
     }
-}
-
-// How many blanks a text begins with.
-fn blanks(text: &[u8]) -> usize
-    ensures value { result ≡ prefix_len (trims false) text.now }
-    ensures inside { result ≤ length text.now }
-{
-    text.iter().take_while(|b| trims(false, **b)).count()
 }
 
 // How long a text is without the blanks at its end.

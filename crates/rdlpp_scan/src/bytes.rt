@@ -84,8 +84,9 @@ fn is_inert(b: u8) -> bool
     CLASSES[b as usize] & QUIET != 0
 }
 
+/// Whether a byte is a decimal digit.
 #[tactic(auto, unfolding(crate::specs::Bytes::is_digit))]
-pub(crate) fn is_digit(b: u8) -> bool
+pub fn is_digit(b: u8) -> bool
     ensures { result ≡ is_digit b }
 {
     b'0' <= b && b <= b'9'
@@ -140,8 +141,8 @@ pub(crate) fn begins_block_comment(bytes: &[u8]) -> bool
     byte_at(bytes, 0) == b'/' && byte_at(bytes, 1) == b'*'
 }
 
-// How many blanks a text begins with.
-pub(crate) fn blanks(bytes: &[u8]) -> usize
+/// How many blanks a text begins with.
+pub fn blanks(bytes: &[u8]) -> usize
     ensures value { result ≡ prefix_len is_blank bytes.now }
     ensures inside { result ≤ length bytes.now }
 {

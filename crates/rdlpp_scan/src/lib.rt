@@ -9,7 +9,7 @@ mod plain;
 mod scan;
 mod token;
 
-pub use bytes::{byte_at, inert_bytes, is_blank, is_letter, word_bytes};
+pub use bytes::{blanks, byte_at, inert_bytes, is_blank, is_digit, is_letter, word_bytes};
 pub use faults::{is_perl, lex_fault, open_fault, plain_argument_bytes};
 pub use lines::{last_line_end, line_ends_in, line_len, logical_line, rest_of_line};
 pub use names::{is_name, reserved};

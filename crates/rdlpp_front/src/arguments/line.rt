@@ -1,12 +1,12 @@
 // What a `line` is given behind its word.
 ghost use Rattle.std.specs.Prelude.{◌≡◌, ◌≤◌, ◌==◌, ◌||◌, ◌∷◌, [], bytes_eq, false, length};
 ghost use Rattle.std.specs.List.{prefix_len};
-ghost use Rattle.rdlpp_scan.specs.Bytes.{is_blank, is_digit};
+ghost use Rattle.rdlpp_scan.specs.Bytes.{is_digit};
 ghost use Rattle.rdlpp_meaning.specs.Meaning.{is_level, past_blank_bytes, quote_place};
 ghost use Rattle.rdlpp_front.specs.Arguments.{IsLineGiven, IsLineNumber, IsShownName, IsQuoteWithin};
 
 use arrayvec::ArrayString;
-use rdlpp_scan::{is_blank, rest_of_line};
+use rdlpp_scan::{blanks, is_digit, rest_of_line};
 
 const MAX_NUMBER: u64 = 2_147_483_647;
 
@@ -43,27 +43,11 @@ pub fn given_line(bytes: &[u8]) -> Option<GivenLine>
     Some(GivenLine { number, name, stop })
 }
 
-// How many blanks a text begins with.
-fn blanks(bytes: &[u8]) -> usize
-    ensures value { result ≡ prefix_len is_blank bytes.now }
-    ensures inside { result ≤ length bytes.now }
-{
-    bytes.iter().take_while(|b| is_blank(**b)).count()
-}
-
 // A text without the blanks at its front.
 fn past_blanks(bytes: &[u8]) -> &[u8]
     ensures { result.now ≡ past_blank_bytes bytes.now }
 {
     &bytes[blanks(bytes)..]
-}
-
-// Whether a byte is a decimal digit.
-#[tactic(auto, unfolding(rdlpp_scan::specs::Bytes::is_digit))]
-fn is_digit(byte: u8) -> bool
-    ensures { result ≡ is_digit byte }
-{
-    b'0' <= byte && byte <= b'9'
 }
 
 // How many digits a text begins with.

@@ -4,7 +4,7 @@ use Rattle.rdlpp_lines.specs.Texts.{trimmed_of, trims, without_end}
 use Rattle.rdlpp_lines.proofs.piece.trimmed.Goals as goal
 
 pub returns-clause-value : goal.returns-clause-value
-unfolding trimmed_of
+unfolding trimmed_of trims
 returns-clause-value c =
     let text = c.args.text.now in
     let front : take (length text - c.blanks.result) (drop c.blanks.result text) ≡ drop c.blanks.result text = between_to_end text c.blanks.result (length text) (omega arith) in
