@@ -2,7 +2,7 @@
 use Rattle.std.proofs.Common.{◌≡◌, ◌≢◌, ℕ, suc, ◌-◌, ◌<◌, Bool, true, false, cond, List, [], ◌∷◌, length, take, drop, slice_index, refl, sym, ap, ◌∙◌, arith, Option, Some, None, subst, ◌+◌, ◌≤◌, not, ◌++◌, append-nil, inl, inr, eqb-true, drop-drop, length-drop, length-take-le}
 use Rattle.std.specs.List.{list_all, prefix_len}
 use Rattle.std.proofs.lemmas.Bool.{and_parts, cond_both, false≢true}
-use Rattle.std.proofs.lemmas.List.{drop-drop, length-drop, take_rest}
+use Rattle.std.proofs.lemmas.List.{take_rest}
 use Rattle.rdlpp_scan.specs.Bytes.{begins_block_comment, begins_line_comment, begins_perl, is_blank, is_digit, is_letter, is_line_end, is_word, takes_word}
 use Rattle.rdlpp_scan.specs.Front.{Breach}
 use Rattle.rdlpp_scan.specs.Names.{IsWordBytes}
@@ -36,7 +36,7 @@ use Rattle.rdlpp_meaning.proofs.LiveText.{resumed_bare, resumed_broken, resumed_
 use Rattle.rdlpp_meaning.proofs.Outcomes.{after_bytes-nil, fails-goes_on}
 use Rattle.rdlpp_meaning.proofs.Skipping.{all_copied_skipped, resumed_skipped, resumed_skipped_broken, resumed_skipped_broken_parts, resumed_skipped_parts}
 use Rattle.rdlpp_read.specs.Buffer.{BufferView, ahead_of, entered_mode, held_of, rest_of, tokens_left}
-use Rattle.rdlpp_front.specs.Arguments.{Found, IsLead, Lacks, Leads, NothingBehindBlanks}
+use Rattle.rdlpp_front.specs.Arguments.{IsLead, Lacks, LeadingPart, Leads, NothingBehindBlanks}
 use Rattle.rdlpp_front.specs.SourceItems.{AtOrdinary, AtToken, HasArgument, IsAfter, IsArgumentOf, IsDirective, IsText, IsUsage, StandsAfter, argument_name, is_text_kind, usage_name}
 use Rattle.rdlpp_front.specs.declared.arguments.Argument.{Argument}
 
@@ -147,7 +147,7 @@ word_len d held some is =
     sym (length-take-le (token_of Plain held).len held (token_of-part Plain held some).inside) ∙ ap length is.word
 
 -- what stands behind the word of a directive is what it is given
-pub given_here : (is : Found) (own d : Directive) (held : List ℕ) (len : ℕ) (a : Option Argument) → own ≡ d → 0 < length held → IsDirective own held
+pub given_here : (is : LeadingPart) (own d : Directive) (held : List ℕ) (len : ℕ) (a : Option Argument) → own ≡ d → 0 < length held → IsDirective own held
     → len ≡ (token_of Plain held).len → IsAfter is len held a → IsArgumentOf is d held a
 given_here is own d held len None same some word whole h =
     let at : IsDirective d held = subst (λ (x : Directive). IsDirective x held) same word in
@@ -157,7 +157,7 @@ given_here is own d held len (Some a) same some word whole h =
     record { word = at; argument = subst (λ (n : ℕ). StandsAfter is n held a.start a.stop) (whole ∙ word_len d held some at) h }
 
 -- what is found behind blanks behind a word
-pub stands_there : (is : Found) (held : List ℕ) (word_len space len : ℕ) → word_len ≤ length held
+pub stands_there : (is : LeadingPart) (held : List ℕ) (word_len space len : ℕ) → word_len ≤ length held
     → IsLead Blank (take (length held - word_len) (drop word_len held)) space → (len ≡ 0 → ⊥)
     → is (take (length held - (word_len + space)) (drop (word_len + space) held)) len → word_len + space + len ≤ length held
     → StandsAfter is word_len held (word_len + space) (word_len + space + len)

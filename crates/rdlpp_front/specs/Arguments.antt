@@ -30,18 +30,18 @@ pub data IsClosedString (bytes : List ℕ) (len : ℕ) : Type 0 where
   Opens : ((n : ℕ) → ClosesString bytes n → ⊥) → len ≡ 0 → IsClosedString bytes len
 
 -- what a kind of thing tells of a text: how long the one at its front is, or 0 where there is none
-abbrev pub Found : Type 1
-Found = List ℕ → ℕ → Type 0
+abbrev pub LeadingPart : Type 1
+LeadingPart = List ℕ → ℕ → Type 0
 
 -- behind blanks stands such a thing, from a place up to another (IEEE 1364-2001, compiler directives)
-pub record BehindBlanks (is : Found) (bytes : List ℕ) (start stop : ℕ) : Type 0 where
+pub record BehindBlanks (is : LeadingPart) (bytes : List ℕ) (start stop : ℕ) : Type 0 where
   pub space : IsLead Blank bytes start
   pub some : start < stop
   pub found : is (drop start bytes) (stop - start)
   pub inside : stop ≤ length bytes
 
 -- behind blanks stands none
-pub record NothingBehindBlanks (is : Found) (bytes : List ℕ) : Type 0 where
+pub record NothingBehindBlanks (is : LeadingPart) (bytes : List ℕ) : Type 0 where
   pub start : ℕ
   pub space : IsLead Blank bytes start
   pub none : is (drop start bytes) 0

@@ -12,7 +12,7 @@ use Rattle.rdlpp_scan.specs.Tokens.{token_of, plain_len}
 use Rattle.rdlpp_meaning.specs.declared.fault.FaultKind.{FaultKind}
 use Rattle.rdlpp_meaning.specs.declared.fault.FaultKind.TheVariants as fault
 use Rattle.rdlpp_meaning.specs.Meaning.{Checked, NameFault, Fine, unquoted}
-use Rattle.rdlpp_front.specs.Arguments.{BehindBlanks, Found, IsClosedString, IsLead, NothingBehindBlanks}
+use Rattle.rdlpp_front.specs.Arguments.{BehindBlanks, IsClosedString, IsLead, LeadingPart, NothingBehindBlanks}
 use Rattle.rdlpp_front.specs.declared.arguments.Argument.{Argument}
 use Rattle.rdlpp_front.specs.declared.item.SourceItem.{SourceItem}
 use Rattle.rdlpp_front.specs.declared.item.SourceItem.TheVariants.{Text, Usage, Define, Undef, Ifdef, Ifndef, Elsif, Else, Endif, Include, Line, Refused}
@@ -45,7 +45,7 @@ pub record IsDirective (d : Directive) (held : List ℕ) : Type 0 where
   pub word : take (token_of Plain held).len held ≡ directive_word d
 
 -- behind the word of a directive, which has so many bytes, a thing of a kind stands from a place up to another
-pub record StandsAfter (is : Found) (word_len : ℕ) (held : List ℕ) (start stop : ℕ) : Type 0 where
+pub record StandsAfter (is : LeadingPart) (word_len : ℕ) (held : List ℕ) (start stop : ℕ) : Type 0 where
   pub from : ℕ
   pub to : ℕ
   pub given : BehindBlanks is (drop word_len held) from to
@@ -53,22 +53,22 @@ pub record StandsAfter (is : Found) (word_len : ℕ) (held : List ℕ) (start st
   pub stops : stop ≡ word_len + to
 
 -- one stands there, or none
-abbrev pub IsAfter : Found → ℕ → List ℕ → Option Argument → Type 0
+abbrev pub IsAfter : LeadingPart → ℕ → List ℕ → Option Argument → Type 0
 IsAfter is word_len held None = NothingBehindBlanks is (drop word_len held)
 IsAfter is word_len held (Some a) = StandsAfter is word_len held a.start a.stop
 
 -- a directive with what it is given, which stands from a place up to another (IEEE 1364-2001, compiler directives)
-pub record HasArgument (is : Found) (d : Directive) (held : List ℕ) (start stop : ℕ) : Type 0 where
+pub record HasArgument (is : LeadingPart) (d : Directive) (held : List ℕ) (start stop : ℕ) : Type 0 where
   pub word : IsDirective d held
   pub argument : StandsAfter is (length (directive_word d)) held start stop
 
 -- a directive that is given nothing of the kind
-pub record LacksArgument (is : Found) (d : Directive) (held : List ℕ) : Type 0 where
+pub record LacksArgument (is : LeadingPart) (d : Directive) (held : List ℕ) : Type 0 where
   pub word : IsDirective d held
   pub none : NothingBehindBlanks is (drop (length (directive_word d)) held)
 
 -- a directive, and what it is given
-abbrev pub IsArgumentOf : Found → Directive → List ℕ → Option Argument → Type 0
+abbrev pub IsArgumentOf : LeadingPart → Directive → List ℕ → Option Argument → Type 0
 IsArgumentOf is d held None = LacksArgument is d held
 IsArgumentOf is d held (Some a) = HasArgument is d held a.start a.stop
 

@@ -9,7 +9,7 @@ pub use line::{GivenLine, given_line};
 use rdlpp_scan::{Kind, Mode, first_token, rest_of_line};
 
 /// Where what a directive is given stands in held bytes that begin with the directive.
-#[derive(Clone, Copy, Debug, PartialEq, Eq)]
+#[derive(Clone, Copy)]
 pub struct Argument {
     /// The place of its first byte.
     pub start: usize,
@@ -20,7 +20,7 @@ pub struct Argument {
 // The name that stands, behind blanks or at once, behind the word of an `undef`, `ifdef`, `ifndef` or `elsif`, which has so many
 // bytes; `None` where none stands there on the same line. The held bytes end at a line end or where the text ends.
 // IEEE 1364-2001, compiler directives; that the name stands on the same line is this project's profile.
-pub fn name_after(held: &[u8], word_len: usize) -> Option<Argument>
+pub(crate) fn name_after(held: &[u8], word_len: usize) -> Option<Argument>
     requires { word_len ≤ length held.now }
     ensures { IsAfter (IsLead Kind.Name) word_len held.now result }
 {
@@ -38,7 +38,7 @@ pub fn name_after(held: &[u8], word_len: usize) -> Option<Argument>
 // The string that stands, behind blanks or at once, behind the word of an `include`, which has so many bytes, with its quotes;
 // `None` where none stands there that closes on the same line. The held bytes end at a line end or where the text ends.
 // IEEE 1364-2001, `include`; that the string closes on the same line is this project's profile.
-pub fn string_after(held: &[u8], word_len: usize) -> Option<Argument>
+pub(crate) fn string_after(held: &[u8], word_len: usize) -> Option<Argument>
     requires { word_len ≤ length held.now }
     ensures { IsAfter IsClosedString word_len held.now result }
 {

@@ -9,7 +9,7 @@ ghost use Rattle.rdlpp_front.specs.SourceItems.{IsText};
 use rdlpp_scan::{Kind, Mode, first_token, line_ends_in, plain_text, stops_plain_text};
 
 /// Text at the front of held bytes that is copied.
-#[derive(Clone, Copy, Debug, PartialEq, Eq)]
+#[derive(Clone, Copy)]
 pub struct Copied {
     /// How many bytes; at least one.
     pub len: usize,

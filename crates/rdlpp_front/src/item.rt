@@ -12,7 +12,7 @@ use rdlpp_scan::{
 };
 
 /// What the held bytes of a source begin with.
-#[derive(Clone, Copy, Debug, PartialEq, Eq)]
+#[derive(Clone, Copy)]
 pub enum SourceItem {
     /// So many bytes that are copied, and the mode behind them: ordinary text, or a string or a
     /// comment, or the part of one that is held.

@@ -17,7 +17,7 @@ use rdlpp_scan::{
 };
 
 /// How much of skipped text was passed.
-#[derive(Clone, Copy, Debug, PartialEq, Eq)]
+#[derive(Clone, Copy)]
 pub struct SkippedText {
     /// How many bytes.
     pub len: usize,
