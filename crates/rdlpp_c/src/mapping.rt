@@ -17,7 +17,7 @@ const MAP_ROOM: usize = 1_100;
 
 /// How a mapped read ended, in numbers.
 #[repr(C)]
-#[derive(Clone, Copy, Debug, PartialEq, Eq)]
+#[derive(Clone, Copy)]
 pub struct Mapped {
     /// As of `rdlpp_read`; 8 where the buffer for the map is too short.
     pub outcome: Outcome,

@@ -38,7 +38,7 @@ pub(crate) const CHANGED: u32 = 9;
 
 /// How a call ended, in numbers.
 #[repr(C)]
-#[derive(Clone, Copy, Debug, PartialEq, Eq)]
+#[derive(Clone, Copy)]
 pub struct Outcome {
     /// 0: the output is whole; 1: a fault ended it; 2: a limit is out of its range; 3: a path, a name
     /// or a body isn't UTF-8; 4: memory was refused; 5: more may follow; 6: the handle is closed; 7: a

@@ -31,7 +31,7 @@ struct Progress {
 }
 
 /// What is told of an `elsif` or `else` before its name is looked at.
-#[derive(Clone, Copy, Debug, PartialEq, Eq)]
+#[derive(Clone, Copy)]
 pub enum Branch {
     /// It belongs to a conditional that opened in skipped text, and changes nothing.
     Inner,

@@ -11,7 +11,7 @@ use crate::bytes::{begins_block_comment, begins_line_comment, begins_perl, byte_
 use std::simd::prelude::*;
 
 /// How much ordinary text bytes begin with.
-#[derive(Clone, Copy, Debug, PartialEq, Eq)]
+#[derive(Clone, Copy)]
 pub struct PlainText {
     /// How many bytes.
     pub len: usize,

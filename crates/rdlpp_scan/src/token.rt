@@ -1,7 +1,7 @@
 // What the scanner tells of a text: tokens, and the names that directives have.
 
 /// The kind of a token, by the row of the token table that gives it (this project's profile).
-#[derive(Clone, Copy, Debug, PartialEq, Eq)]
+#[derive(Clone, Copy, PartialEq, Eq)]
 pub enum Kind {
     /// `[A-Za-z_][A-Za-z0-9_]*`.
     Name,
@@ -34,7 +34,7 @@ pub enum Kind {
 }
 
 /// Where a text stands before a token: in plain text, in a string or in a block comment.
-#[derive(Clone, Copy, Debug, PartialEq, Eq)]
+#[derive(Clone, Copy, PartialEq, Eq)]
 pub enum Mode {
     /// Neither in a string nor in a block comment.
     Plain,
@@ -45,7 +45,7 @@ pub enum Mode {
 }
 
 /// One token, or the part of it that a cut text has.
-#[derive(Clone, Copy, Debug, PartialEq, Eq)]
+#[derive(Clone, Copy)]
 pub struct Token {
     /// What it is.
     pub kind: Kind,
@@ -56,7 +56,7 @@ pub struct Token {
 }
 
 /// The nine directives, whose names are reserved (IEEE 1364-2001, clause on compiler directives).
-#[derive(Clone, Copy, Debug, PartialEq, Eq)]
+#[derive(Clone, Copy)]
 pub enum Directive {
     /// `define`.
     Define,
@@ -79,7 +79,7 @@ pub enum Directive {
 }
 
 /// What is wrong with a whole text, as tokens.
-#[derive(Clone, Copy, Debug, PartialEq, Eq)]
+#[derive(Clone, Copy)]
 pub enum LexFault {
     /// `<%` outside comments.
     Perl,

@@ -13,7 +13,7 @@ const LINE_ENDS: &[u8; 16] = b"\n\n\n\n\n\n\n\n\n\n\n\n\n\n\n\n";
 const LABEL: &[u8; 11] = b"// origin: ";
 
 /// The parts of the texts that are pending.
-#[derive(Clone, Copy, Debug, PartialEq, Eq)]
+#[derive(Clone, Copy)]
 pub enum PendingPart {
     /// LF bytes.
     LineEnds,

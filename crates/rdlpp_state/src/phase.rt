@@ -1,7 +1,7 @@
 // How far an engine is.
 
 /// How far an engine is.
-#[derive(Clone, Copy, Debug, PartialEq, Eq)]
+#[derive(Clone, Copy, PartialEq, Eq)]
 pub enum Phase {
     /// Not started.
     Fresh,

@@ -17,7 +17,7 @@ use rdlpp_scan::{Kind, Mode, Token, first_token, inert_bytes, is_letter, word_by
 /// The first place of a range of a body that isn't copied as it stands.
 ///
 /// Places and lengths are bytes, and places are counted from the front of the body.
-#[derive(Clone, Copy, Debug, PartialEq, Eq)]
+#[derive(Clone, Copy)]
 pub enum ExpansionPoint {
     /// There is none: the range is copied.
     None,

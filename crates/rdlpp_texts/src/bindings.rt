@@ -11,7 +11,7 @@ use crate::parts::{PartEnd, call_start, next_part};
 use rdlpp_meaning::FaultKind;
 
 /// Where an actual stands in the text of its call: from one byte up to another.
-#[derive(Clone, Copy, Debug, PartialEq, Eq)]
+#[derive(Clone, Copy)]
 pub struct Range {
     /// Where it begins.
     pub from: usize,

@@ -10,7 +10,7 @@ use crate::tokens::{CallRole, ends_call, ends_part, level_after, token_in_call};
 use rdlpp_scan::{Mode, byte_at, word_bytes};
 
 /// Where a part of a call ends.
-#[derive(Clone, Copy, Debug, PartialEq, Eq)]
+#[derive(Clone, Copy)]
 pub enum PartEnd {
     /// At a comma: the next part begins here.
     Comma(usize),
@@ -19,7 +19,7 @@ pub enum PartEnd {
 }
 
 /// A part of a call.
-#[derive(Clone, Copy, Debug, PartialEq, Eq)]
+#[derive(Clone, Copy)]
 pub struct Part {
     /// Where its text begins, without the white space in front of it.
     pub from: usize,

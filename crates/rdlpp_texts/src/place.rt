@@ -3,7 +3,7 @@
 use rdlpp_table::MacroId;
 
 /// A text that may be open, or in which one lies.
-#[derive(Clone, Copy, Debug, PartialEq, Eq)]
+#[derive(Clone, Copy)]
 pub enum TextSource {
     /// What is kept of the call in the source.
     Arguments,
@@ -19,7 +19,7 @@ pub enum TextSource {
 }
 
 /// A range of bytes of a text.
-#[derive(Clone, Copy, Debug, PartialEq, Eq)]
+#[derive(Clone, Copy)]
 pub struct TextPlace {
     /// The text.
     pub source: TextSource,

@@ -6,7 +6,7 @@ use crate::place::{TextPlace, TextSource};
 use rdlpp_meaning::FaultKind;
 
 /// A fault in an open text, which is told at the line of the usage in the source.
-#[derive(Clone, Copy, Debug, PartialEq, Eq)]
+#[derive(Clone, Copy)]
 pub struct CursorFault {
     /// Its kind.
     pub kind: FaultKind,
@@ -15,7 +15,7 @@ pub struct CursorFault {
 }
 
 /// What one step of open texts comes to.
-#[derive(Clone, Copy, Debug, PartialEq, Eq)]
+#[derive(Clone, Copy)]
 pub enum CursorStep {
     /// Bytes of a text are lent, as they lie there.
     Lends(TextPlace),

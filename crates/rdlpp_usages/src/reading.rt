@@ -28,7 +28,7 @@ use rdlpp_scan::{Mode, line_ends_in};
 use rdlpp_source::Sources;
 
 /// What reading a call comes to.
-#[derive(Clone, Copy, Debug, PartialEq, Eq)]
+#[derive(Clone, Copy)]
 pub enum CallRead {
     /// The call is closed, and the store has its kept bytes.
     Closed,

@@ -10,7 +10,7 @@ use rdlpp_scan::logical_line;
 use rdlpp_source::Sources;
 
 /// What is found of the logical line at the front of what is held.
-#[derive(Clone, Copy, Debug, PartialEq, Eq)]
+#[derive(Clone, Copy)]
 pub enum LogicalLine {
     /// It is held whole, and has so many bytes: with the LF that ends it, or up to the end of the text.
     Whole(usize),

@@ -18,7 +18,7 @@ use rdlpp_source::{SourceFault, Sources};
 const FIRST_ROOM: usize = 512;
 
 /// What stands before the next byte of a source.
-#[derive(Clone, Copy, Debug, PartialEq, Eq)]
+#[derive(Clone, Copy)]
 pub enum Fill {
     /// At least one byte of a line that the limits accept.
     Held,
