@@ -1,6 +1,6 @@
 //! Tests of what no contract says and no row of `rdlpp_rows` shows: that what needs memory is made where there is enough, what is
-//! held piece by piece, how often sources and sinks are asked, where a failure is told to have come, printed texts, files and
-//! folders, and the words of a command line.
+//! held piece by piece, how often sources and sinks are asked, where a failure is told to have come, printed texts, and files and
+//! folders.
 #![tactic(auto)]
 
 #[cfg(test)]
@@ -23,5 +23,3 @@ mod resuming_tests;
 mod runs;
 #[cfg(test)]
 mod sources;
-#[cfg(test)]
-mod word_tests;
