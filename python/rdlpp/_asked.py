@@ -26,6 +26,9 @@ PART = 4_194_304
 # The size from which on a file is read into the room of the output: a bytes object of that size is made of new pages each time.
 LARGE = 131_072
 
+# A file with fewer bytes is read before it is asked what it is, where nobody needs to know which one it is.
+SMALL = 32_768
+
 # How a file is opened.
 HOW = os.O_RDONLY | os.O_CLOEXEC
 
@@ -78,14 +81,18 @@ class Disk:
     An error without a number isn't the system's: a signal's handler raised it, and it comes out.
 
     The text of a pipe or a device stays, since it can't be read again.
+
+    Args:
+        tells_files: whether `file` is told, for which the system has to be asked.
     """
 
-    def __init__(self, source_bytes: int, line_bytes: int) -> None:
+    def __init__(self, source_bytes: int, line_bytes: int, tells_files: bool) -> None:
         self.stays = False
         self.file: Optional[FileId] = None
         # With so many bytes one line is whole that passes `source_bytes`, or one has more than `line_bytes`.
         self._most = source_bytes + line_bytes + 1
         self._line = line_bytes
+        self._tells_files = tells_files
 
     def text_at(self, path: bytes, written: Written) -> Union[bytes, Part, None]:
         if LF in path:
@@ -112,6 +119,11 @@ class Disk:
     def _text(self, file: int, written: Written) -> Union[bytes, Part]:
         """What a run can use of an open file, which may grow meanwhile."""
         self.file = None
+        if not self._tells_files:
+            small = _small_text(file)
+            if small is not None:
+                self.stays = False
+                return small
         told = os.fstat(file)
         self.stays = not stat.S_ISREG(told.st_mode)
         if not self.stays:
@@ -137,6 +149,18 @@ class Disk:
             line = place + count - 1 - last if last else line + count
             length += count
         return Part(written.end(0), length)
+
+
+def _small_text(file: int) -> Optional[bytes]:
+    """All of an open file that has fewer than SMALL bytes and can be read again; else None, and it stands where it stood."""
+    try:
+        text = os.pread(file, SMALL, 0)
+    except OSError as error:
+        if error.errno == errno.ESPIPE:
+            return None
+        raise
+    # A read that comes back with fewer bytes than there is room for needn't have met the end.
+    return None if len(text) == SMALL or os.pread(file, 1, len(text)) else text
 
 
 def entries(files: Mapping[Any, Bytes], objects: Mapping[str, Any]) -> Asked:

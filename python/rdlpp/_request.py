@@ -92,7 +92,7 @@ def _path_objects(files: Mapping[Any, Bytes]) -> Dict[str, Any]:
     return {_path_text("a key of files", key): key for key in list(files) if not isinstance(key, str)}
 
 
-def _asked(files: Any, read: Any, limits: Limits) -> Asked:
+def _asked(files: Any, read: Any, limits: Limits, tells_files: bool) -> Asked:
     """Where the sources come from."""
     if files is not None and read is not None:
         raise ValueError("files and read can't both be given")
@@ -104,7 +104,7 @@ def _asked(files: Any, read: Any, limits: Limits) -> Asked:
         if not callable(read):
             raise _wrong("read", "a callable from a path to bytes or None", read)
         return given(read)
-    return Disk(limits.source_bytes, limits.line_bytes)
+    return Disk(limits.source_bytes, limits.line_bytes, tells_files)
 
 
 def request_of(
@@ -115,8 +115,13 @@ def request_of(
     origins: bool,
     files: Optional[Mapping[Key, Bytes]],
     read: Optional[Read],
+    *,
+    tells_files: bool = True,
 ) -> Request:
     """What these arguments ask for.
+
+    Args:
+        tells_files: whether it is told in which file each source lies.
 
     Raises:
         TypeError, ValueError, UnicodeError, LimitError: an argument isn't one.
@@ -130,6 +135,5 @@ def request_of(
     if not isinstance(origins, bool):
         raise _wrong("origins", "a bool", origins)
     path, texts = _main(source)
-    return Request(
-        path, texts, _folders(include_dirs), _definitions(defines), limits, origins, _asked(files, read, limits)
-    )
+    asked = _asked(files, read, limits, tells_files)
+    return Request(path, texts, _folders(include_dirs), _definitions(defines), limits, origins, asked)

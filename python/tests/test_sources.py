@@ -401,9 +401,47 @@ class Files(Sources):
         self.write("m", b"reg a @ 0x0;\n")
         told = mock.Mock(st_size=2 * _asked.PART, st_mode=os.stat("m").st_mode)
         with mock.patch.object(_asked.os, "fstat", lambda file: told):
-            self.assertEqual(rdlpp.preprocess("m"), b"reg a @ 0x0;\n")
+            self.assertEqual(rdlpp.run("m").text, b"reg a @ 0x0;\n")
             self.write("m", b"")
-            self.assertEqual(rdlpp.preprocess("m"), b"")
+            self.assertEqual(rdlpp.run("m").text, b"")
+
+    def test_a_file_that_is_not_asked_which_one_it_is(self):
+        for size in (0, 1, _asked.SMALL - 1, _asked.SMALL, _asked.SMALL + 1, 3 * _asked.SMALL):
+            text = b"q\n" * (size // 2) + b"\n" * (size % 2)
+            self.write("i", text)
+            self.write("m", b'`include "i"\n`include "/dev/null"\n`include "i"\n`include "/dev/null"\n')
+            self.assertEqual(rdlpp.preprocess("m"), text + b"\n\n" + text + b"\n\n")
+
+    def test_a_read_that_comes_back_early(self):
+        text, call = b"reg a @ 0x0;\n" * 100, os.pread
+        self.write("m", text)
+        with mock.patch.object(_asked.os, "pread", lambda file, most, at: call(file, min(most, 13), at)):
+            self.assertEqual(rdlpp.preprocess("m"), text)
+
+    def test_a_small_file_that_fails(self):
+        self.write("m", b"x\n")
+        for calls in (1, 2):
+            call, left = os.pread, list(range(calls))
+
+            def read(*given):
+                left.pop()
+                if not left:
+                    raise OSError(errno.EIO, os.strerror(errno.EIO))
+                return call(*given)
+
+            with mock.patch.object(_asked.os, "pread", read), self.assertRaises(rdlpp.Fault) as caught:
+                rdlpp.preprocess("m")
+            self.assertEqual(str(caught.exception), "m:1: error F32: read failed")
+            self.assertEqual(caught.exception.notes, ("m: Input/output error (os error 5)",))
+
+    def test_what_is_no_file_is_told_alike(self):
+        os.mkdir("folder")
+        for path in ("folder", "missing", "m/i"):
+            self.write("m", b'`include "%s"\n' % path.encode())
+            with self.assertRaises(rdlpp.Fault) as caught:
+                rdlpp.preprocess("m")
+            fault = self.fault("m")
+            self.assertEqual((str(caught.exception), caught.exception.notes), (str(fault), fault.notes))
 
     def test_a_file_that_fails_in_the_middle(self):
         def failing(name, at):
