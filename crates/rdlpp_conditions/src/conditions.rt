@@ -1,5 +1,5 @@
 // The open conditionals of a run.
-ghost use Rattle.std.specs.Prelude.{◌≡◌, ◌+◌, ◌^◌, ◌≤◌, ◌<◌, ◌||◌, ◌∷◌, [], drop, length, IfOk, IfSome, None};
+ghost use Rattle.std.specs.Prelude.{◌≡◌, ◌+◌, ◌^◌, ◌≤◌, ◌<◌, ◌∷◌, [], drop, length, IfOk, IfSome, None};
 ghost use Rattle.std.specs.Option.{is_none, unwrap_or};
 ghost use Rattle.rdlpp_meaning.specs.Meaning.{is_else};
 ghost use Rattle.rdlpp_conditions.specs.Conditions.{place_of, progress_of};
@@ -184,7 +184,12 @@ impl Conditions {
         ensures { self.new ≡ turned_with word holds self.old }
     {
         let last = self.open.len() - 1;
-        let turned = turned(self.open[last], word, holds);
+        let progress = self.open[last];
+        let turned = Progress {
+            line: progress.line,
+            taken: progress.taken || holds,
+            closing: is_else(word),
+        };
         self.open[last] = turned;
         self.skipped = skipped_by(holds);
     }
@@ -255,17 +260,6 @@ fn is_else(word: Directive) -> bool
     match word {
         Directive::Else => true,
         _ => false,
-    }
-}
-
-// An open conditional behind a branch whose test holds or doesn't.
-fn turned(progress: Progress, word: Directive, holds: bool) -> Progress
-    ensures { result ≡ record { line = progress.line; taken = progress.taken || holds; closing = is_else word } }
-{
-    Progress {
-        line: progress.line,
-        taken: progress.taken || holds,
-        closing: is_else(word),
     }
 }
 

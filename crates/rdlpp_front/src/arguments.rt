@@ -1,5 +1,5 @@
 // What a directive is given behind its word.
-ghost use Rattle.std.specs.Prelude.{◌≡◌, ◌≤◌, length};
+ghost use Rattle.std.specs.Prelude.{◌≤◌, length};
 ghost use Rattle.rdlpp_front.specs.Arguments.{IsClosedString, IsLead};
 ghost use Rattle.rdlpp_front.specs.SourceItems.{IsAfter};
 

@@ -2,7 +2,6 @@
 ghost use Rattle.std.specs.Prelude.{◌≡◌, ◌≢◌, ◌<◌, ℕ, IfNone, IfSome, true, length, slice_index, take};
 ghost use Rattle.rdlpp_scan.specs.SourceTokens.{line_ends};
 ghost use Rattle.rdlpp_scan.specs.Tokens.{stops_plain_text};
-ghost use Rattle.rdlpp_scan.specs.declared.token.Kind.TheVariants.{LineComment};
 ghost use Rattle.rdlpp_scan.specs.declared.token.Mode.TheVariants.{Plain};
 ghost use Rattle.rdlpp_front.specs.SourceItems.{IsText};
 
@@ -73,23 +72,15 @@ fn token_copied(mode: Mode, held: &[u8]) -> Option<Copied>
     ensures none { IfNone result ((len : ℕ) → (next : Mode) → IsText mode held.now len next → ⊥) }
 {
     let token = first_token(mode, held);
-    match token.kind {
-        Kind::Perl => None,
-        _ => Some(Copied {
-            len: token.len,
-            lines: token_line_ends(token.kind, &held[..token.len]),
-            next: token.next_mode,
-        }),
-    }
-}
-
-// How many LF a token has: none where it is a comment up to its line's end.
-fn token_line_ends(kind: Kind, bytes: &[u8]) -> usize
-    requires { kind ≡ LineComment → line_ends bytes.now ≡ 0 }
-    ensures { result ≡ line_ends bytes.now }
-{
-    match kind {
+    let lines = match token.kind {
+        Kind::Perl => return None,
+        // It ends in front of its line's end.
         Kind::LineComment => 0,
-        _ => line_ends_in(bytes),
-    }
+        _ => line_ends_in(&held[..token.len]),
+    };
+    Some(Copied {
+        len: token.len,
+        lines,
+        next: token.next_mode,
+    })
 }

@@ -5,10 +5,8 @@ ghost use Rattle.rdlpp_scan.specs.Tokens.{plain_len};
 ghost use Rattle.rdlpp_front.specs.SkippedText.{
   IsPassed,
   IsPassedOnce,
-  counts,
   counts_skipped,
   stops_at,
-  stops_closed,
   stops_skipping,
 };
 
@@ -104,43 +102,30 @@ fn ordinary_text(mode: Mode, bytes: &[u8]) -> PlainText
 }
 
 // Whether a token with these bytes ends a stretch of skipped text.
-#[tactic(auto, unfolding(crate::specs::SkippedText::stops_skipping))]
+#[tactic(auto, unfolding(crate::specs::SkippedText::stops_skipping, crate::specs::SkippedText::stops_closed))]
 fn stops_skipping(token: Token, word: &[u8]) -> bool
     ensures { result ≡ stops_skipping token word.now }
 {
     match token.next_mode {
-        Mode::Plain => stops_closed(token.kind, word),
+        Mode::Plain => match token.kind {
+            Kind::Perl => true,
+            Kind::Back => counts_skipped(word),
+            _ => false,
+        },
         _ => true,
     }
 }
 
-// Whether a token that is closed ends a stretch of skipped text, by its kind and its bytes.
-#[tactic(auto, unfolding(crate::specs::SkippedText::stops_closed))]
-fn stops_closed(kind: Kind, word: &[u8]) -> bool
-    ensures { result ≡ stops_closed kind word.now }
-{
-    match kind {
-        Kind::Perl => true,
-        Kind::Back => counts_skipped(word),
-        _ => false,
-    }
-}
-
 // Whether a word counts in skipped text.
-#[tactic(auto, unfolding(crate::specs::SkippedText::counts_skipped, rdlpp_scan::specs::Reserved::directive_named))]
+#[tactic(auto, unfolding(crate::specs::SkippedText::counts_skipped, crate::specs::SkippedText::counts, rdlpp_scan::specs::Reserved::directive_named))]
 fn counts_skipped(word: &[u8]) -> bool
     ensures { result ≡ counts_skipped word.now }
 {
-    match word.split_first() {
-        Some((_backquote, name)) => reserved(name).is_some_and(counts),
-        None => false,
+    let Some((_backquote, name)) = word.split_first() else {
+        return false;
+    };
+    match reserved(name) {
+        None | Some(Directive::Undef | Directive::Include) => false,
+        Some(_) => true,
     }
-}
-
-// Whether a directive counts in skipped text.
-#[tactic(auto, unfolding(crate::specs::SkippedText::counts))]
-fn counts(directive: Directive) -> bool
-    ensures { result ≡ counts directive }
-{
-    !matches!(directive, Directive::Undef | Directive::Include)
 }

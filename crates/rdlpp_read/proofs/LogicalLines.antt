@@ -1,5 +1,5 @@
 -- Logical lines that are taken in over several lines.
-use Rattle.std.proofs.Common.{◌≡◌, ℕ, ◌+◌, ◌-◌, ◌≤◌, ◌<◌, false, List, [], ◌∷◌, ◌++◌, length, take, drop, None, Some, refl, sym, ap, subst, ◌∙◌, arith, inl, inr, ◌≢◌, suc, Bool, true, ◌&&◌, ◌||◌, get_or, option_map, if◌then◌else◌, take-suc, append-nil, append_assoc, drop-drop, length-append, length-drop, length-take-le, take-append-drop}
+use Rattle.std.proofs.Common.{◌≡◌, ℕ, ◌+◌, ◌-◌, ◌≤◌, ◌<◌, false, List, [], ◌∷◌, ◌++◌, length, take, drop, None, Some, refl, sym, ap, subst, ◌∙◌, arith, inl, inr, ◌≢◌, suc, Bool, true, ◌&&◌, ◌||◌, get_or, option_map, take-suc, append-nil, append_assoc, drop-drop, length-append, length-drop, length-take-le, take-append-drop}
 use Rattle.std.proofs.Math.Seq.{drop-length, take-append_seam, take-length}
 use Rattle.std.proofs.lemmas.Bool.Decides.{eqb_tells}
 use Rattle.rdlpp_scan.specs.Bytes.{is_blank, is_line_end}

@@ -1,6 +1,5 @@
 // One open source: the part of its text that is held, by lines.
-ghost use Rattle.std.specs.Prelude.{◌≡◌, ℕ, ◌+◌, ◌-◌, ◌^◌, ◌≤◌, ◌<◌, [], length, take, drop, slice_range, Option, None, IfOk};
-ghost use Rattle.std.specs.Option.{is_none};
+ghost use Rattle.std.specs.Prelude.{◌≡◌, ◌+◌, ◌-◌, ◌^◌, ◌≤◌, ◌<◌, [], length, take, drop, slice_range, Option, None, IfOk};
 ghost use Rattle.rdlpp_read.specs.Buffer.{EndsHeld, IsBuffer, ahead_of, closed_buffer, entered_mode, held_of, reading_line_of};
 
 mod ahead;
@@ -208,13 +207,6 @@ impl<R: Drop> SourceBuffer<R> {
         ensures { result.now ≡ ahead_of self.now }
     {
         &self.bytes[self.accepted..self.filled]
-    }
-
-    // Whether the text ends with the window.
-    fn is_ended(&self) -> bool
-        ensures { result ≡ is_none self.now.reader }
-    {
-        self.reader.is_none()
     }
 
     // Moves what isn't used to the front.

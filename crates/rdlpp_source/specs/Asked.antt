@@ -1,6 +1,6 @@
 -- What sources in memory that own their texts tell, and what they ask for.
 -- A definition that names no source is this project's own.
-use Rattle.std.specs.Prelude.{◌≡◌, ℕ, ◌+◌, ◌-◌, ◌^◌, ◌==◌, min, Bool, true, false, List, [], ◌∷◌, length, map, bytes_eq, ◌&&◌, Option, None, Some, nat_lt, ⊤, Result, Ok, Err, if◌then◌else◌}
+use Rattle.std.specs.Prelude.{◌≡◌, ℕ, ◌+◌, ◌-◌, ◌^◌, ◌==◌, min, Bool, true, false, List, [], ◌∷◌, length, map, bytes_eq, ◌&&◌, Option, None, Some, nat_lt, Result, Ok, Err, if◌then◌else◌}
 use Rattle.std.specs.List.{list_any}
 use Rattle.std.specs.Option.{option_map}
 use Rattle.std.specs.String.{string_bytes}
@@ -144,31 +144,6 @@ Adds old new counts path standing = (q : List ℕ) → standing_at new q ≡ fir
 -- what is known stays (source: this project's profile)
 abbrev pub Stays : AskedTexts → AskedTexts → Type 0
 Stays old new = (q : List ℕ) → standing_at new q ≡ standing_at old q
-
--- a text is opened, or has no room for a further reader
-abbrev pub Opens : List ℕ → List ℕ → Result (Found (List ℕ)) Stop → Type 0
-Opens path text (Ok found) = (found.path.bytes ≡ path) × (found.reader ≡ text)
-Opens path text (Err NotThere) = ⊥
-Opens path text (Err TooLong) = ⊥
-Opens path text (Err NotOpened) = ⊥
-Opens path text (Err NoRoom) = ⊤
-Opens path text (Err (NotKnown other)) = ⊥
-
--- whether a search failed at a candidate
-abbrev pub is_failed : Stop → Bool
-is_failed NotThere = false
-is_failed TooLong = false
-is_failed NotOpened = true
-is_failed NoRoom = false
-is_failed (NotKnown path) = true
-
--- whether a search had no room for a reader
-abbrev pub is_refused : Stop → Bool
-is_refused NotThere = false
-is_refused TooLong = false
-is_refused NotOpened = false
-is_refused NoRoom = true
-is_refused (NotKnown path) = false
 
 -- how a search that opened nothing is told: the same, and a candidate that can't be opened or is wanted as a device that failed
 abbrev pub Stops : Stop → SourceFault → Option (List ℕ) → Type 0

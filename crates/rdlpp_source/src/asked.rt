@@ -1,12 +1,11 @@
 // Sources in memory that own their texts, and that may ask for what they don't have.
-ghost use Rattle.std.specs.Prelude.{◌≡◌, ◌≤◌, ℕ, List, [], None, false, map, min, drop, length, true, OnOk, OnErr, if◌then◌else◌};
-ghost use Rattle.std.specs.Option.{option_copied};
+ghost use Rattle.std.specs.Prelude.{◌≡◌, ◌≤◌, ℕ, List, [], None, false, min, drop, length, true, OnOk, OnErr, if◌then◌else◌};
 ghost use Rattle.std.specs.Io.{ReadsAtMost};
 ghost use Rattle.std.specs.String.{string_bytes};
 ghost use Rattle.rdlpp_source.specs.Sources.{Finds, Reads, is_device, is_no_memory};
 ghost use Rattle.rdlpp_source.specs.Search.{joined_path};
 ghost use Rattle.rdlpp_source.specs.Counts.{Counts};
-ghost use Rattle.rdlpp_source.specs.Asked.{Answers, Comes, Adds, Ends, Opens, Stays, Stops, first_search, folders_of, is_failed, is_refused, search_at, search_of, standing_at, wanted_of};
+ghost use Rattle.rdlpp_source.specs.Asked.{Answers, Comes, Adds, Ends, Stays, search_at, search_of, standing_at, wanted_of};
 
 use crate::{Found, SearchedFolders, SourceFault, Sources, candidate};
 use arrayvec::ArrayString;
@@ -71,21 +70,6 @@ impl Model for AskedReader {
 }
 
 impl AskedReader {
-    // A text, from its first byte on.
-    fn of(text: Rc<Vec<u8>, Global>) -> AskedReader
-        ensures { result ≡ text.value.items }
-    {
-        AskedReader { text, from: 0 }
-    }
-
-    // The bytes that weren't read yet.
-    fn left(&self) -> &[u8]
-        ensures { result.now ≡ self.now }
-    {
-        let text: &Vec<u8> = self.text.as_ref();
-        &text[self.from..]
-    }
-
     // Passes so many bytes.
     fn pass(&mut self, len: usize)
         requires { len ≤ length self.old }
@@ -165,15 +149,8 @@ impl AskedTexts {
         self.add(path, standing)
     }
 
-    // What is known of a path.
-    #[tactic(auto, unfolding(crate::specs::Asked::standing_at))]
-    fn standing(&self, path: &str) -> Option<&Standing>
-        ensures { option_copied result ≡ standing_at self.now path.now }
-    {
-        self.known.get(path)
-    }
-
     // The source of a name in a folder.
+    #[tactic(auto, unfolding(crate::specs::Asked::standing_at))]
     fn open_in(&self, folder: &str, name: &str) -> Result<Found<AskedReader>, Stop>
         ensures { Comes (search_at self.now (joined_path folder.now name.now)) result }
     {
@@ -182,8 +159,14 @@ impl AskedTexts {
             Err(SourceFault::PathTooLong) => return Err(Stop::PathTooLong),
             Err(_) => return Err(Stop::Absent),
         };
-        match self.standing(path.as_str()) {
-            Some(Standing::Text(text)) => open_text(path, text),
+        match self.known.get(path.as_str()) {
+            Some(Standing::Text(text)) => match text.clone() {
+                Ok(text) => Ok(Found {
+                    path,
+                    reader: AskedReader { text, from: 0 },
+                }),
+                Err(_) => Err(Stop::NoMemory),
+            },
             Some(Standing::Absent) => Err(Stop::Absent),
             Some(Standing::Failed) => Err(self.if_asks(Stop::Failed)),
             None => Err(self.if_asks(Stop::Wanted(path))),
@@ -223,33 +206,6 @@ impl AskedTexts {
         SourceFault::Device
     }
 
-    // Counts a text that had no room for a reader.
-    fn refused(&mut self) -> SourceFault
-        ensures fault { result ≡ SourceFault.NoMemory }
-        ensures count { Counts true self.old.refusals self.new.refusals }
-        ensures only { self.new ≡ record self.old { refusals = self.new.refusals } }
-    {
-        self.refusals = self.refusals.saturating_add(1);
-        SourceFault::NoMemory
-    }
-
-    // Tells why a search opened nothing.
-    fn stopped(&mut self, stop: Stop) -> SourceFault
-        ensures fault { Stops stop result (wanted_of self.new) }
-        ensures failures { Counts (is_failed stop) self.old.failures self.new.failures }
-        ensures refusals { Counts (is_refused stop) self.old.refusals self.new.refusals }
-        ensures only { self.new ≡ record self.old { wanted = self.new.wanted; failures = self.new.failures; refusals = self.new.refusals } }
-    {
-        self.wanted = None;
-        match stop {
-            Stop::Absent => SourceFault::Absent,
-            Stop::PathTooLong => SourceFault::PathTooLong,
-            Stop::Failed => self.failed(None),
-            Stop::Wanted(path) => self.failed(Some(path)),
-            Stop::NoMemory => self.refused(),
-        }
-    }
-
     // Tells how a search ended.
     fn ended(
         &mut self,
@@ -260,29 +216,21 @@ impl AskedTexts {
         ensures refusals { Counts (is_no_memory result) self.old.refusals self.new.refusals }
         ensures only { self.new ≡ record self.old { wanted = self.new.wanted; failures = self.new.failures; refusals = self.new.refusals } }
     {
-        match answer {
-            Ok(found) => {
-                self.wanted = None;
-                Ok(found)
+        self.wanted = None;
+        let stop = match answer {
+            Ok(found) => return Ok(found),
+            Err(stop) => stop,
+        };
+        match stop {
+            Stop::Absent => Err(SourceFault::Absent),
+            Stop::PathTooLong => Err(SourceFault::PathTooLong),
+            Stop::Failed => Err(self.failed(None)),
+            Stop::Wanted(path) => Err(self.failed(Some(path))),
+            Stop::NoMemory => {
+                self.refusals = self.refusals.saturating_add(1);
+                Err(SourceFault::NoMemory)
             }
-            Err(stop) => Err(self.stopped(stop)),
         }
-    }
-}
-
-// A text that a further reader is given.
-fn open_text(
-    path: ArrayString<1024>,
-    text: &Rc<Vec<u8>, Global>,
-) -> Result<Found<AskedReader>, Stop>
-    ensures { Opens path.bytes text.now.value.items result }
-{
-    match text.clone() {
-        Ok(text) => Ok(Found {
-            path,
-            reader: AskedReader::of(text),
-        }),
-        Err(_) => Err(Stop::NoMemory),
     }
 }
 
@@ -332,7 +280,8 @@ impl Sources for AskedTexts {
         ensures count { result ≡ Ok (min (length to.old) (length reader.old)) }
         ensures unchanged { self.new ≡ self.old }
     {
-        let left = reader.left();
+        let text: &Vec<u8> = reader.text.as_ref();
+        let left = &text[reader.from..];
         let len = to.len().min(left.len());
         to[..len].copy_from_slice(&left[..len]);
         reader.pass(len);

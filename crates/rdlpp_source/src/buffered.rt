@@ -1,5 +1,5 @@
 //! A sink that gathers bytes in front of a writer.
-ghost use Rattle.std.specs.Prelude.{◌≡◌, ◌+◌, ◌-◌, ◌≤◌, [], ◌++◌, true, not, length, take, drop, IfOk, OnOk, IsTrue, is_err, vec_len, vec_capacity};
+ghost use Rattle.std.specs.Prelude.{◌≡◌, ◌+◌, ◌-◌, ◌≤◌, [], ◌++◌, true, length, take, drop, IfOk, OnOk, IsTrue, is_err, vec_len, vec_capacity};
 ghost use Rattle.std.specs.Io.{WritesAtMost};
 ghost use Rattle.std.specs.Io.KnownBytes.{Keeps, Appends, WriteAppends};
 ghost use Rattle.rdlpp_source.specs.Counts.{Counts};
@@ -66,9 +66,10 @@ impl<W: Write + Drop> Buffered<W> {
         ensures counts { SameCounts self.old self.new }
     {
         let written = write_out(self.held.as_slice(), &mut self.writer);
-        let is_whole = written == self.held.len();
-        remove_front(&mut self.held, written);
-        is_whole
+        let len = self.held.len();
+        self.held.as_mut_slice().copy_within(written..len, 0);
+        self.held.truncate(len - written);
+        written == len
     }
 
     // Takes the first bytes of a part for which there may be no room; no count changes here.
@@ -178,18 +179,6 @@ fn write_out<W: Write>(bytes: &[u8], to: &mut W) -> usize
         }
     }
     written
-}
-
-// Removes the first bytes.
-fn remove_front(held: &mut Vec<u8>, len: usize)
-    requires { len ≤ vec_len held.old }
-    ensures items { held.new.items ≡ drop len held.old.items }
-    ensures len { vec_len held.new ≡ vec_len held.old - len }
-    ensures capacity { vec_capacity held.new ≡ vec_capacity held.old }
-{
-    let old_len = held.len();
-    held.as_mut_slice().copy_within(len..old_len, 0);
-    held.truncate(old_len - len);
 }
 
 // Appends a part for which there is room; a single byte without a call.

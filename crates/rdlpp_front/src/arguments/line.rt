@@ -1,5 +1,5 @@
 // What a `line` is given behind its word.
-ghost use Rattle.std.specs.Prelude.{◌≡◌, ◌≤◌, ◌==◌, ◌||◌, ◌∷◌, [], bytes_eq, false, length};
+ghost use Rattle.std.specs.Prelude.{◌≡◌, ◌≤◌, false, length};
 ghost use Rattle.std.specs.List.{prefix_len};
 ghost use Rattle.rdlpp_scan.specs.Bytes.{is_digit};
 ghost use Rattle.rdlpp_meaning.specs.Meaning.{is_level, past_blank_bytes, quote_place};
@@ -117,12 +117,6 @@ fn is_level(bytes: &[u8]) -> bool
     if bytes.is_empty() || bytes[0] < b'0' || b'2' < bytes[0] {
         return false;
     }
-    is_line_rest(past_blanks(&bytes[1..]))
-}
-
-// Whether nothing but an LF stands there, or nothing at all.
-fn is_line_rest(bytes: &[u8]) -> bool
-    ensures { result ≡ (length bytes.now == 0 || bytes_eq bytes.now (10 ∷ [])) }
-{
-    bytes.is_empty() || bytes == b"\n".as_slice()
+    let rest = past_blanks(&bytes[1..]);
+    rest.is_empty() || rest == b"\n".as_slice()
 }

@@ -1,5 +1,5 @@
 // What the bytes behind the accepted lines of a source allow, over slices.
-ghost use Rattle.std.specs.Prelude.{◌≡◌, ◌≤◌, ◌<◌, Bool, true, length, take};
+ghost use Rattle.std.specs.Prelude.{◌≡◌, ◌≤◌, length, take};
 ghost use Rattle.rdlpp_scan.specs.Lines.{whole_lines_len};
 ghost use Rattle.rdlpp_read.specs.Ahead.{Allows};
 
@@ -26,33 +26,16 @@ pub(crate) fn look_ahead(bytes: &[u8], seen: usize, bytes_left: usize, ended: bo
     ensures { Allows result bytes.now bytes_left ended }
 {
     if last_line_end(&bytes[seen..]) > 0 {
-        return whole_lines(bytes, bytes_left);
+        let len = last_line_end(&bytes[..bytes_left.min(bytes.len())]);
+        return if len == 0 {
+            Ahead::TooLong
+        } else {
+            Ahead::Lines(len)
+        };
     }
     if !ended {
-        return Ahead::Unended;
-    }
-    last_line(bytes, bytes_left)
-}
-
-// The whole lines that fit, where there is an LF.
-fn whole_lines(bytes: &[u8], bytes_left: usize) -> Ahead
-    requires { 0 < whole_lines_len bytes.now }
-    ensures { (ended : Bool) → Allows result bytes.now bytes_left ended }
-{
-    let len = last_line_end(&bytes[..bytes_left.min(bytes.len())]);
-    if len == 0 {
-        Ahead::TooLong
-    } else {
-        Ahead::Lines(len)
-    }
-}
-
-// The last line of a text, which has no LF.
-fn last_line(bytes: &[u8], bytes_left: usize) -> Ahead
-    requires { whole_lines_len bytes.now ≡ 0 }
-    ensures { Allows result bytes.now bytes_left true }
-{
-    if bytes.is_empty() {
+        Ahead::Unended
+    } else if bytes.is_empty() {
         Ahead::Nothing
     } else if bytes.len() > bytes_left {
         Ahead::TooLong

@@ -1,5 +1,4 @@
 // A logical line that goes over several physical lines: more lines are taken in behind what is held.
-ghost use Rattle.std.specs.Prelude.{◌≡◌, length};
 ghost use Rattle.rdlpp_read.specs.Calls.{SourcesRead};
 ghost use Rattle.rdlpp_read.specs.Buffer.{EndsHeld};
 ghost use Rattle.rdlpp_read.specs.LogicalLines.{HoldsLine, is_failed_line};

@@ -1,12 +1,10 @@
 // What stands before the next byte of a source: reading by lines.
-ghost use Rattle.std.specs.Prelude.{◌≡◌, ℕ, ◌+◌, ◌-◌, ◌≤◌, ◌<◌, [], length, max, take, drop, Option, None, IfSome, IfNone, IsSome, MatchOption, IfOk, IfErr, vec_len};
+ghost use Rattle.std.specs.Prelude.{◌≡◌, ℕ, ◌+◌, ◌-◌, ◌≤◌, ◌<◌, length, max, take, drop, Option, None, IfSome, IfNone, IsSome, IfOk, IfErr, vec_len};
 ghost use Rattle.rdlpp_source.specs.Sources.{Reads, is_device};
 ghost use Rattle.rdlpp_source.specs.Counts.{Counts};
 ghost use Rattle.rdlpp_scan.specs.Lines.{whole_lines_len};
 ghost use Rattle.rdlpp_read.specs.Calls.{SourcesRead};
-ghost use Rattle.std.specs.Option.{is_none};
 ghost use Rattle.std.specs.Vec.{vec_capacity};
-ghost use Rattle.rdlpp_read.specs.Ahead.{AreLines};
 ghost use Rattle.rdlpp_read.specs.Buffer.{EndsHeld, IsBuffer, ahead_of};
 ghost use Rattle.rdlpp_read.specs.Filling.{Fills, Finds, Grows, Turns, is_failed, is_failed_turn};
 
@@ -33,16 +31,6 @@ pub enum Fill {
 }
 
 impl<R: Drop> SourceBuffer<R> {
-    // Accepts the first `len` bytes behind the accepted lines.
-    fn accept_lines(&mut self, len: usize) -> Fill
-        requires { AreLines len (ahead_of self.old) self.old.bytes_left (is_none self.old.reader) }
-        ensures { Finds result self.old self.new }
-    {
-        self.accepted += len;
-        self.bytes_left -= len;
-        Fill::Held
-    }
-
     // Accepts what can be, where the first `seen` bytes behind the accepted lines have no LF.
     fn accept(&mut self, seen: usize) -> Option<Fill>
         requires inside { seen ≤ length (ahead_of self.old) }
@@ -51,10 +39,14 @@ impl<R: Drop> SourceBuffer<R> {
         ensures more { IfNone result ((self.new ≡ self.old) × (whole_lines_len (ahead_of self.old) ≡ 0) × IsSome self.old.reader) }
         ensures buffer { IsBuffer self.old }
     {
-        let (bytes_left, ended) = (self.bytes_left, self.is_ended());
-        match look_ahead(self.ahead(), seen, bytes_left, ended) {
+        let ended = self.reader.is_none();
+        match look_ahead(self.ahead(), seen, self.bytes_left, ended) {
             Ahead::Unended => None,
-            Ahead::Lines(len) => Some(self.accept_lines(len)),
+            Ahead::Lines(len) => {
+                self.accepted += len;
+                self.bytes_left -= len;
+                Some(Fill::Held)
+            }
             Ahead::Nothing => Some(Fill::End),
             Ahead::TooLong => Some(Fill::SourceLong),
         }

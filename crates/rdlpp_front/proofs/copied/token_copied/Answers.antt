@@ -16,12 +16,18 @@ returns-in_default c =
     record {
       text = AtToken (text_at_front c.args.mode c.args.held.now c.requires.stops (λ e. c.in_default.not-Perl (ap (λ (t : Token). t.kind) is ∙ e)))
           (ap (λ (t : Token). t.next_mode) is) (ap (λ (t : Token). t.len) is);
-      lines = c.token_line_ends.ensures;
+      lines = c.line_ends_in-lines.ensures;
       none = tt;
     }
 
-pub token_line_ends-requires : goal.token_line_ends-requires
-token_line_ends-requires c =
+pub returns-in-LineComment-clause-text : goal.returns-in-LineComment-clause-text
+returns-in-LineComment-clause-text c =
     let is = c.first_token-token.ensures.value in
-    λ e. subst (λ (t : Token). line_ends (take t.len c.args.held.now) ≡ 0) (sym is)
-    (comment_without_ends c.args.mode c.args.held.now (sym (ap (λ (t : Token). t.kind) is) ∙ e))
+    AtToken (text_at_front c.args.mode c.args.held.now c.requires.stops (λ e. let bad = sym c.in-LineComment.is ∙ ap (λ (t : Token). t.kind) is ∙ e in cc))
+    (ap (λ (t : Token). t.next_mode) is) (ap (λ (t : Token). t.len) is)
+
+pub returns-in-LineComment-clause-lines : goal.returns-in-LineComment-clause-lines
+returns-in-LineComment-clause-lines c =
+    let is = c.first_token-token.ensures.value in
+    sym (subst (λ (t : Token). line_ends (take t.len c.args.held.now) ≡ 0) (sym is)
+    (comment_without_ends c.args.mode c.args.held.now (sym (ap (λ (t : Token). t.kind) is) ∙ c.in-LineComment.is)))
