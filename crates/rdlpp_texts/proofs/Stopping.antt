@@ -1,5 +1,5 @@
 -- The first expansion point of a text, and what stands at its front.
-use Rattle.std.proofs.Common.{◌≡◌, ℕ, ◌+◌, ◌-◌, ◌<◌, ◌≤◌, Bool, true, false, true≢false, List, [], ◌∷◌, length, take, drop, refl, sym, ap, subst, ◌∙◌, arith, Option, None, Some, not, cond, eqb, get_or, is_some, if◌then◌else◌, slice_range, drop-drop, get_or-drop, length-drop, length-take}
+use Rattle.std.proofs.Common.{◌≡◌, ℕ, ◌+◌, ◌-◌, ◌<◌, ◌≤◌, Bool, true, false, true≢false, List, [], ◌∷◌, length, take, drop, refl, sym, ap, subst, ◌∙◌, arith, Option, None, Some, not, cond, eqb, get_or, is_some, if◌then◌else◌, slice_range, ◌⊎◌, inl, inr, drop-drop, get_or-drop, length-drop, length-take}
 use Rattle.std.proofs.lemmas.List.{drop_all}
 use Rattle.memchr.specs.Find.{IsFirstByte, is_byte}
 use Rattle.rdlpp_scan.specs.Tokens.{token_of, tokens_from}
@@ -287,6 +287,19 @@ pub back-none : (len : ℕ) (next : Mode) (kind : Kind) (bytes : List ℕ)
 unfolding is_none point_at point_name is_back
 back-none len next Name bytes = refl
 back-none len next kind bytes = refl
+
+-- a usage or a lone backquote
+pub back-one : (k : Kind) → (k ≡ Back) ⊎ (k ≡ BareBackquote) → is_back k ≡ true
+unfolding is_back
+back-one k (inl e) = ap is_back e
+back-one k (inr e) = ap is_back e
+
+-- any other token
+pub back-other : (k : Kind) → (k ≡ Back → ⊥) → (k ≡ BareBackquote → ⊥) → is_back k ≡ false
+unfolding is_back
+back-other Back back bare = absurd (back refl)
+back-other BareBackquote back bare = absurd (bare refl)
+back-other k back bare = refl
 
 -- one more token is passed
 pub running-more : (text : List ℕ) (mode : Mode) (at : ℕ) (t : Token) → IsRunning text mode at → at < length text → t ≡ token_of mode (drop at text)

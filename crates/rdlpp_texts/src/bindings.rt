@@ -1,5 +1,5 @@
 // The actuals of a call as ranges of the text in which the call stands.
-ghost use Rattle.std.specs.Prelude.{◌≡◌, ℕ, ◌+◌, ◌≤◌, ◌<◌, ◌++◌, ◌∷◌, [], List, true, length, map, drop, slice_range, IfOk, IfErr, is_ok, vec_len, vec_capacity};
+ghost use Rattle.std.specs.Prelude.{◌≡◌, ◌+◌, ◌≤◌, ◌<◌, ◌++◌, ◌∷◌, [], List, true, length, drop, slice_range, IfOk, IfErr, is_ok, vec_len, vec_capacity};
 ghost use Rattle.rdlpp_meaning.specs.Expansion.{bound_parts, is_count};
 ghost use Rattle.rdlpp_meaning.specs.Substitution.{body_tokens};
 ghost use Rattle.rdlpp_meaning.specs.declared.fault.FaultKind.TheVariants.{ArgumentCount};

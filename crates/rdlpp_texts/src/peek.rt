@@ -4,7 +4,7 @@ ghost use Rattle.rdlpp_scan.specs.Tokens.{tokens_from};
 ghost use Rattle.rdlpp_table.specs.ExpansionPoints.{point_in, point_of};
 ghost use Rattle.rdlpp_table.specs.Table.{Formal};
 ghost use Rattle.rdlpp_table.specs.View.{macro_at};
-ghost use Rattle.rdlpp_texts.specs.TextItems.{is_back, run_len, IsNextItem, IsTextItem, IsPeekAhead};
+ghost use Rattle.rdlpp_texts.specs.TextItems.{run_len, IsNextItem, IsTextItem, IsPeekAhead};
 ghost use Rattle.rdlpp_texts.specs.Opened.{opens_of};
 ghost use Rattle.rdlpp_texts.specs.Places.{source_formals, source_text, texts_of, IsSource};
 ghost use Rattle.rdlpp_texts.specs.Steps.{AreSound};
@@ -220,19 +220,11 @@ fn run_by_tokens(text: &[u8]) -> usize
     let mut at = 0;
     while at < text.len() {
         let token = first_token(mode, &text[at..]);
-        if is_back(token.kind) {
+        if let Kind::Back | Kind::BareBackquote = token.kind {
             return at;
         }
         mode = token.next_mode;
         at += token.len;
     }
     at
-}
-
-// Whether a token of a kind is a usage or a lone backquote.
-#[tactic(auto, unfolding(crate::specs::TextItems::is_back))]
-fn is_back(kind: Kind) -> bool
-    ensures { result ≡ is_back kind }
-{
-    matches!(kind, Kind::Back | Kind::BareBackquote)
 }

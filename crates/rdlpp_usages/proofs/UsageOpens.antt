@@ -333,10 +333,6 @@ step_last macros old c now arguments rest bytes step is same takes silent empty 
     none_open [] e = refl
     none_open (x ∷ below) e = absurd (let n = eqb-true (length (x ∷ below)) 0 e in omega (arith, n))
 
--- a step that isn't said to be silent isn't
-pub not-silent : (step : CursorStep) (b : Bool) → (IsTrue b ↔ (step ≡ Silent)) → b ≡ false → step ≡ Silent → ⊥
-not-silent step b both none is = true≢false (sym (both.1 is) ∙ none)
-
 -- behind bytes that are lent, and behind a fault, a text is open
 pub still_open : (step : CursorStep) (old : List Open) (c now : CursorsView) (bytes : List ℕ) → (step ≡ Silent → ⊥) → KeepsOpen step now.opens → StaysRefused c step now
     → c.opens ≡ old → 0 < length old → now.opens ≡ [] → bytes ≡ []

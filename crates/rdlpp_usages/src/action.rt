@@ -1,12 +1,12 @@
 // One token of a call, or the part of it that is held, or a run of plain argument bytes.
-ghost use Rattle.std.specs.Prelude.{◌≡◌, ◌≢◌, ℕ, ◌+◌, ◌≤◌, ◌<◌, ◌∷◌, [], length, false, IfSome};
+ghost use Rattle.std.specs.Prelude.{◌≡◌, ◌≢◌, ◌+◌, ◌≤◌, ◌<◌, length, false, IfSome};
 ghost use Rattle.std.specs.List.{prefix_len};
 ghost use Rattle.rdlpp_scan.specs.Tokens.{token_of};
 ghost use Rattle.rdlpp_scan.specs.declared.token.Kind.TheVariants.{Back};
 ghost use Rattle.rdlpp_scan.specs.declared.token.Mode.TheVariants.{InStr, Plain};
 ghost use Rattle.rdlpp_meaning.specs.CallScan.{Before, Inside, fault_at_end};
 ghost use Rattle.rdlpp_texts.specs.CallTokens.{role_meant};
-ghost use Rattle.rdlpp_usages.specs.CallActions.{is_plain_argument, Answers, IsKeptAt, IsAction, IsConsumed, level_in, call_state_meant};
+ghost use Rattle.rdlpp_usages.specs.CallActions.{is_plain_argument, Answers, IsAction, IsConsumed, level_in, call_state_meant};
 
 use rdlpp_meaning::FaultKind;
 use rdlpp_scan::{Kind, Mode, Token, first_token, reserved};
@@ -72,20 +72,6 @@ fn passes(token: Token, call_state: CallState) -> CallAction
     })
 }
 
-// What is done before the `(` with a token of a role.
-#[tactic(auto, unfolding(crate::specs::CallActions::call_state_meant, crate::specs::CallActions::level_in, rdlpp_texts::specs::CallTokens::role_meant, rdlpp_meaning::specs::CallScan::turn, rdlpp_meaning::specs::CallScan::turn_before, rdlpp_meaning::specs::CallScan::call_state_after, rdlpp_meaning::specs::CallScan::call_state_after_lead, rdlpp_meaning::specs::CallScan::room_after))]
-fn lead_action(role: CallRole, token: Token) -> CallAction
-    ensures { (room : ℕ) → Answers Before (role_meant role) room token result }
-{
-    match role {
-        CallRole::Space | CallRole::LineComment | CallRole::BlockComment => {
-            passes(token, CallState::Before)
-        }
-        CallRole::Start => passes(token, CallState::Inside(0)),
-        _ => CallAction::Refused(FaultKind::ArgumentsMissing),
-    }
-}
-
 // What is done behind the `(`, at a level of further openers, with a token of a role.
 fn inside_action(level: usize, room: usize, role: CallRole, token: Token) -> CallAction
     requires level { level + room ≤ usize.MAX }
@@ -95,19 +81,9 @@ fn inside_action(level: usize, room: usize, role: CallRole, token: Token) -> Cal
     if ends_call(role, level) {
         return CallAction::Closes;
     }
-    match role {
-        CallRole::LineComment => passes(token, CallState::Inside(level)),
-        _ => kept_action(level, room, role, token),
+    if let CallRole::LineComment = role {
+        return passes(token, CallState::Inside(level));
     }
-}
-
-// What is done behind the `(` with a token that is kept where it fits.
-fn kept_action(level: usize, room: usize, role: CallRole, token: Token) -> CallAction
-    requires level { level + room ≤ usize.MAX }
-    requires some { 0 < token.len }
-    requires text { IsKeptAt (role_meant role) level }
-    ensures { Answers (Inside level) (role_meant role) room token result }
-{
     if room < token.len {
         return CallAction::Refused(FaultKind::ArgumentBytes);
     }
@@ -120,14 +96,20 @@ fn kept_action(level: usize, room: usize, role: CallRole, token: Token) -> CallA
 }
 
 // What is done with a token of a role.
-#[tactic(auto, unfolding(crate::specs::CallActions::call_state_meant, crate::specs::CallActions::level_in))]
+#[tactic(auto, unfolding(crate::specs::CallActions::call_state_meant, crate::specs::CallActions::level_in, rdlpp_texts::specs::CallTokens::role_meant, rdlpp_meaning::specs::CallScan::turn, rdlpp_meaning::specs::CallScan::turn_before, rdlpp_meaning::specs::CallScan::call_state_after, rdlpp_meaning::specs::CallScan::call_state_after_lead, rdlpp_meaning::specs::CallScan::room_after))]
 fn role_action(call_state: CallState, room: usize, role: CallRole, token: Token) -> CallAction
     requires level { level_in (call_state_meant call_state) + room ≤ usize.MAX }
     requires some { 0 < token.len }
     ensures { Answers (call_state_meant call_state) (role_meant role) room token result }
 {
     match call_state {
-        CallState::Before => lead_action(role, token),
+        CallState::Before => match role {
+            CallRole::Space | CallRole::LineComment | CallRole::BlockComment => {
+                passes(token, CallState::Before)
+            }
+            CallRole::Start => passes(token, CallState::Inside(0)),
+            _ => CallAction::Refused(FaultKind::ArgumentsMissing),
+        },
         CallState::Inside(level) => inside_action(level, room, role, token),
     }
 }
@@ -169,11 +151,21 @@ fn plain_argument_bytes(text: &[u8]) -> usize
     text.iter().take_while(|b| is_plain_argument(**b)).count()
 }
 
-// The use of the plain argument bytes with which held bytes begin in plain text, at a level of further openers, if there are some
-// and they fit.
-fn inside_argument_use(level: usize, room: usize, held: &[u8]) -> Option<Consumed>
-    ensures { IfSome result (λ u. IsConsumed (Inside level) Plain room held.now u) }
+// The use of the plain argument bytes with which held bytes begin in plain text behind the `(`, if there are some and they fit.
+fn plain_argument_use(
+    call_state: CallState,
+    mode: Mode,
+    room: usize,
+    held: &[u8],
+) -> Option<Consumed>
+    ensures { IfSome result (λ u. IsConsumed (call_state_meant call_state) mode room held.now u) }
 {
+    let CallState::Inside(level) = call_state else {
+        return None;
+    };
+    let Mode::Plain = mode else {
+        return None;
+    };
     let len = plain_argument_bytes(held);
     if len == 0 || room < len {
         return None;
@@ -184,24 +176,6 @@ fn inside_argument_use(level: usize, room: usize, held: &[u8]) -> Option<Consume
         call_state: CallState::Inside(level),
         is_kept: true,
     })
-}
-
-// The same in any mode, and wherever the reading stands.
-fn plain_argument_use(
-    call_state: CallState,
-    mode: Mode,
-    room: usize,
-    held: &[u8],
-) -> Option<Consumed>
-    ensures { IfSome result (λ u. IsConsumed (call_state_meant call_state) mode room held.now u) }
-{
-    match call_state {
-        CallState::Inside(level) => match mode {
-            Mode::Plain => inside_argument_use(level, room, held),
-            _ => None,
-        },
-        CallState::Before => None,
-    }
 }
 
 /// What is done in a call with the first token of held bytes, or with the part of it that is held: it

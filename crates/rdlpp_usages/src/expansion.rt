@@ -1,5 +1,5 @@
 // The expansion of a usage in a source.
-ghost use Rattle.std.specs.Prelude.{◌≡◌, ◌↔◌, ◌*◌, ◌<◌, ◌≤◌, ◌==◌, [], length, IfOk, IsTrue, is_some, true};
+ghost use Rattle.std.specs.Prelude.{◌≡◌, ◌*◌, ◌<◌, ◌≤◌, ◌==◌, [], length, IfOk, is_some, true};
 ghost use Rattle.rdlpp_scan.specs.declared.token.Mode.TheVariants.{Plain};
 ghost use Rattle.rdlpp_table.specs.View.{macro_at};
 ghost use Rattle.rdlpp_read.specs.Buffer.{held_of};
@@ -161,9 +161,9 @@ impl Expansion {
         ensures { TakesUsageStep table.now.macros self.old result self.new }
     {
         let step = self.texts.step(table, self.arguments.bytes());
-        if !is_silent(&step) {
+        let CursorStep::Silent = step else {
             return step;
-        }
+        };
         if self.texts.is_empty() {
             self.arguments.clear();
         }
@@ -267,11 +267,4 @@ fn open_call<S: Sources>(
         CallRead::Broken(kind, own) => Opening::Broken(kind, own),
         CallRead::Failed => Opening::Failed,
     }
-}
-
-// Whether a step lends nothing and isn't refused.
-fn is_silent(step: &CursorStep) -> bool
-    ensures { IsTrue result ↔ (step.now ≡ CursorStep.Silent) }
-{
-    matches!(step, CursorStep::Silent)
 }

@@ -1,5 +1,5 @@
 // The reading of a call, token by token, over any number of refills.
-ghost use Rattle.std.specs.Prelude.{◌≡◌, ◌≢◌, ℕ, ◌+◌, ◌-◌, ◌^◌, ◌≤◌, ◌<◌, [], length, take, true};
+ghost use Rattle.std.specs.Prelude.{◌≡◌, ◌≢◌, ℕ, ◌-◌, ◌^◌, ◌≤◌, ◌<◌, [], length, take, true};
 ghost use Rattle.rdlpp_scan.specs.declared.token.Mode.TheVariants.{InStr, Plain};
 ghost use Rattle.rdlpp_meaning.specs.CallScan.{Before};
 ghost use Rattle.rdlpp_read.specs.Buffer.{held_of};
