@@ -1,7 +1,6 @@
 // What the held bytes of a source begin with.
 ghost use Rattle.std.specs.Prelude.{◌≡◌, ◌≢◌, ◌<◌, ◌≤◌, length, slice_index, true};
 ghost use Rattle.rdlpp_scan.specs.Tokens.{stops_plain_text, token_of};
-ghost use Rattle.rdlpp_scan.specs.declared.token.Kind.TheVariants.{Back};
 ghost use Rattle.rdlpp_scan.specs.declared.token.Mode.TheVariants.{Plain};
 ghost use Rattle.rdlpp_front.specs.SourceItems.{IsDirective, IsSourceItem};
 
@@ -97,24 +96,13 @@ fn backquote_item(held: &[u8]) -> SourceItem
     ensures { IsSourceItem Plain held.now result }
 {
     if is_letter(byte_at(held, 1)) {
-        name_item(held, 1 + word_bytes(&held[1..]))
+        let len = 1 + word_bytes(&held[1..]);
+        match reserved(&held[1..len]) {
+            None => SourceItem::Usage(len),
+            Some(directive) => directive_item(held, len, directive),
+        }
     } else {
         SourceItem::Refused(FaultKind::BareBackquote)
-    }
-}
-
-// What held bytes begin with that begin with a backquote and a name, of so many bytes together.
-fn name_item(held: &[u8], len: usize) -> SourceItem
-    requires some { 0 < len }
-    requires inside { len ≤ length held.now }
-    requires backquote { slice_index held.now 0 ≡ 96 }
-    requires kind { (token_of Plain held.now).kind ≡ Back }
-    requires whole { len ≡ (token_of Plain held.now).len }
-    ensures { IsSourceItem Plain held.now result }
-{
-    match reserved(&held[1..len]) {
-        None => SourceItem::Usage(len),
-        Some(directive) => directive_item(held, len, directive),
     }
 }
 

@@ -346,11 +346,6 @@ pub closed-slot : {R : Type 0} (size : ℕ) (f : File R) → f.buffer ≡ closed
 unfolding closed_buffer
 closed-slot size f closed number = grind (arith, none_ends)
 
--- it has no reader
-pub closed-reader : {R : Type 0} (size : ℕ) (f : File R) → f.buffer ≡ closed_buffer 0 size → IsClosed f
-unfolding closed_buffer
-closed-reader size f closed = ap (λ b. b.reader) closed
-
 -- slots of which none is open
 pub slots-made : {R : Type 0} (size first : ℕ) (slots : List (File R)) → length slots ≡ first → All (IsSlot size) slots → All IsClosed slots → AreSlots size first slots
 slots-made size first slots all each closed = record {

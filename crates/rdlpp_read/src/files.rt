@@ -94,23 +94,6 @@ impl<R> Model for Files<R> {
 }
 
 impl<R: Drop> File<R> {
-    // A slot without a source, with its buffer.
-    fn closed(buffer: SourceBuffer<R>) -> Self
-        ensures buffer { result.buffer ≡ buffer }
-        ensures shift { result.shift ≡ record { from = 0; number = 0 } }
-    {
-        File {
-            buffer,
-            path: ArrayString::new(),
-            name: ArrayString::new(),
-            shift: Shift { from: 0, number: 0 },
-            blanks: true,
-            conditions_below: 0,
-            include_line: 0,
-            ends_mid_line: false,
-        }
-    }
-
     // Uses `len` held bytes, which have `lines` line ends, and answers where they begin.
     fn consume(&mut self, len: usize, lines: usize) -> usize
         requires inside { len ≤ length (held_of self.old.buffer) }
@@ -150,7 +133,16 @@ impl<R: Drop> Files<R> {
     {
         let mut list = Vec::with_capacity(alloc, slots)?;
         for _slot in 0..slots {
-            list.push_reserved(File::closed(SourceBuffer::new(alloc, line_bytes)?));
+            list.push_reserved(File {
+                buffer: SourceBuffer::new(alloc, line_bytes)?,
+                path: ArrayString::new(),
+                name: ArrayString::new(),
+                shift: Shift { from: 0, number: 0 },
+                blanks: true,
+                conditions_below: 0,
+                include_line: 0,
+                ends_mid_line: false,
+            });
         }
         Ok(Files {
             slots: list,

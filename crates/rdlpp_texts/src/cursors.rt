@@ -227,45 +227,6 @@ impl Cursors {
         self.first = first;
     }
 
-    // Opens the body of a macro whose call is written in a scope and binds nothing.
-    fn push_body(&mut self, id: MacroId, end: usize, parent: usize)
-        requires { length self.old.opens < self.old.depth }
-        ensures { self.new ≡ record self.old { opens = record { part = record { from = 0; end = end; mode = Plain }; parent = parent; kind = OpenBody id [] } ∷ self.old.opens } }
-    {
-        let bound = self.bindings.len();
-        let bounds = body_bounds(&self.frames.as_slice()[self.first..], parent, id);
-        let first = free_frame(&mut self.frames, self.first, self.depth);
-        self.frames[first] = Frame {
-            from: 0,
-            end,
-            parent,
-            kind: FrameKind::Body { id, first: bound },
-            bounds,
-        };
-        self.first = first;
-    }
-
-    // Goes on at a place of the innermost text, and opens the body of a macro whose call is written in a scope and binds nothing.
-    fn push_after(&mut self, at: usize, id: MacroId, end: usize, parent: usize)
-        requires some { 0 < length self.old.opens }
-        requires room { length self.old.opens < self.old.depth }
-        ensures { self.new ≡ record self.old { opens = record { part = record { from = 0; end = end; mode = Plain }; parent = parent; kind = OpenBody id [] } ∷ moved_to at self.old.opens } }
-    {
-        let first = self.first;
-        let bound = self.bindings.len();
-        let bounds = body_bounds(&self.frames.as_slice()[first..], parent, id);
-        self.frames[first].from = at;
-        let place = free_frame(&mut self.frames, first, self.depth);
-        self.frames[place] = Frame {
-            from: 0,
-            end,
-            parent,
-            kind: FrameKind::Body { id, first: bound },
-            bounds,
-        };
-        self.first = place;
-    }
-
     // Where the innermost text lies, where it goes on and ends, up to where it is copied, and what stands there, with the bytes of
     // the text in which it lies.
     fn peek<'a>(&self, table: &'a Table, arguments: &'a [u8]) -> PeekedText<'a>
@@ -294,8 +255,19 @@ impl Cursors {
         ensures sound { (arguments : List ℕ) → AreSound (texts_of table.now.macros arguments) self.new.opens }
     {
         let _macros = table.len();
+        let end = table.body(id).len();
+        let bound = self.bindings.len();
+        let bounds = body_bounds(&self.frames.as_slice()[self.first..], 0, id);
+        let first = free_frame(&mut self.frames, self.first, self.depth);
+        self.frames[first] = Frame {
+            from: 0,
+            end,
+            parent: 0,
+            kind: FrameKind::Body { id, first: bound },
+            bounds,
+        };
+        self.first = first;
         self.line = line;
-        self.push_body(id, table.body(id).len(), 0);
     }
 
     /// One step of the innermost text, by what stands at its front. `arguments` is what is kept of the call in the source.

@@ -12,9 +12,11 @@ ghost use Rattle.rdlpp_texts.specs.TakenSteps.{PeeksAt, TakesStep};
 ghost use Rattle.rdlpp_texts.specs.Usages.{front_name, is_text_fault, unknown_kind, IsRefused, IsUsed};
 
 use crate::cursors::Cursors;
+use crate::frame::{Frame, FrameKind};
+use crate::frames::free_frame;
 use crate::peek::{Peek, TextItem};
 use crate::place::TextPlace;
-use crate::scopes::{front_scope, is_front_in};
+use crate::scopes::{body_bounds, front_scope, is_front_in};
 use crate::step::{CursorFault, CursorStep, wordless};
 use rdlpp_meaning::FaultKind;
 use rdlpp_scan::reserved;
@@ -97,8 +99,22 @@ impl Cursors {
         requires id { id < length table.now.macros }
         ensures { self.new ≡ record self.old { opens = open_body (texts_of table.now.macros []) id [] (front_scope self.old.opens) ∷ moved_to at self.old.opens } }
     {
-        let parent = self.scope();
-        self.push_after(at, id, table.body(id).len(), parent);
+        let end = table.body(id).len();
+        let first = self.first;
+        let bound = self.bindings.len();
+        let frames = &self.frames.as_slice()[first..];
+        let parent = front_scope(frames);
+        let bounds = body_bounds(frames, parent, id);
+        self.frames[first].from = at;
+        let place = free_frame(&mut self.frames, first, self.depth);
+        self.frames[place] = Frame {
+            from: 0,
+            end,
+            parent,
+            kind: FrameKind::Body { id, first: bound },
+            bounds,
+        };
+        self.first = place;
     }
 
     // The scope of the innermost text.

@@ -1,27 +1,27 @@
-use Rattle.std.proofs.Common.{◌≡◌, ◌+◌, [], ◌∷◌, length, ap, ◌∙◌, arith, vec_len, length-append}
+use Rattle.std.proofs.Common.{◌≡◌, ◌+◌, [], ◌∷◌, length, refl, ap, ◌∙◌, arith, vec_len, length-append}
 use Rattle.std.proofs.lemmas.List.{drop_all}
 use Rattle.std.proofs.lemmas.List.Elements.{All-push, All-same}
 use Rattle.rdlpp_read.specs.Buffer.{closed_buffer}
 use Rattle.rdlpp_read.specs.Files.{IsClosed, IsSlot}
-use Rattle.rdlpp_read.proofs.BufferTokens.{closed-reader, closed-slot, slots-made}
+use Rattle.rdlpp_read.proofs.BufferTokens.{closed-slot, slots-made}
 use Rattle.rdlpp_read.proofs.files.Files.new.Goals as goal
 
 pub loop-slot-init : goal.loop-slot-init
 loop-slot-init g c = grind arith
 
 pub loop-slot-preserved : goal.loop-slot-preserved
+unfolding closed_buffer
 loop-slot-preserved g c =
     let v = c.loop-slot.invariant in
     let old = c.loop-slot.list.items in
-    let made = c.closed.result in
     let items = c.push_reserved.ensures.items in
-    let closed : made.buffer ≡ closed_buffer 0 c.args.line_bytes = c.closed.ensures.buffer ∙ c.in_ok-new.ensures in
-    let size : length c.push_reserved.new.self.items ≡ length old + 1 = ap length items ∙ length-append old (made ∷ []) in (
+    let closed = c.in_ok-new.ensures in
+    let size : length c.push_reserved.new.self.items ≡ length old + 1 = ap length items ∙ length-append old (_ ∷ []) in (
       omega (arith, v.0),
       omega (arith, v.1, c.push_reserved.ensures.capacity),
       All-same (IsSlot c.args.line_bytes) c.push_reserved.new.self.items _ items
-          (All-push (IsSlot c.args.line_bytes) old made v.2 (closed-slot c.args.line_bytes made closed (ap (λ s. s.number) c.closed.ensures.shift))),
-      All-same IsClosed c.push_reserved.new.self.items _ items (All-push IsClosed old made v.3 (closed-reader c.args.line_bytes made closed)),
+          (All-push (IsSlot c.args.line_bytes) old _ v.2 (closed-slot c.args.line_bytes _ closed refl)),
+      All-same IsClosed c.push_reserved.new.self.items _ items (All-push IsClosed old _ v.3 (ap (λ b. b.reader) closed)),
     )
 
 pub push_reserved-requires : goal.push_reserved-requires
