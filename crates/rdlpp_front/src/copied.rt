@@ -36,31 +36,20 @@ pub fn copied_text(mode: Mode, held: &[u8]) -> Option<Copied>
     ensures lines { IfSome result (λ copied. copied.lines ≡ line_ends (take copied.len held.now)) }
     ensures none { IfNone result ((len : ℕ) → (next : Mode) → IsText mode held.now len next → ⊥) }
 {
-    match mode {
-        Mode::Plain => plain_copied(held),
-        _ => token_copied(mode, held),
+    if let Mode::Plain = mode {
+        if held[0] == b'`' {
+            return None;
+        }
+        if !stops_plain_text(held) {
+            let text = plain_text(held);
+            return Some(Copied {
+                len: text.len,
+                lines: text.lines,
+                next: Mode::Plain,
+            });
+        }
     }
-}
-
-// The text that is copied with which held bytes in plain text begin.
-fn plain_copied(held: &[u8]) -> Option<Copied>
-    requires { 0 < length held.now }
-    ensures text { IfSome result (λ copied. IsText Plain held.now copied.len copied.next) }
-    ensures lines { IfSome result (λ copied. copied.lines ≡ line_ends (take copied.len held.now)) }
-    ensures none { IfNone result ((len : ℕ) → (next : Mode) → IsText Plain held.now len next → ⊥) }
-{
-    if held[0] == b'`' {
-        return None;
-    }
-    if stops_plain_text(held) {
-        return token_copied(Mode::Plain, held);
-    }
-    let text = plain_text(held);
-    Some(Copied {
-        len: text.len,
-        lines: text.lines,
-        next: Mode::Plain,
-    })
+    token_copied(mode, held)
 }
 
 // The text that is copied with which held bytes begin that begin with a string, a comment or `<%`.

@@ -55,25 +55,16 @@ pub fn next_item(mode: Mode, held: &[u8]) -> SourceItem
     requires { 0 < length held.now }
     ensures { IsSourceItem mode held.now result }
 {
-    match mode {
-        Mode::Plain => plain_item(held),
-        _ => token_item(mode, held),
+    if let Mode::Plain = mode {
+        if held[0] == b'`' {
+            return backquote_item(held);
+        }
+        let len = plain_text_len(held);
+        if len > 0 {
+            return SourceItem::Text(len, Mode::Plain);
+        }
     }
-}
-
-// What held bytes in plain text begin with.
-fn plain_item(held: &[u8]) -> SourceItem
-    requires { 0 < length held.now }
-    ensures { IsSourceItem Plain held.now result }
-{
-    if held[0] == b'`' {
-        return backquote_item(held);
-    }
-    let len = plain_text_len(held);
-    if len > 0 {
-        return SourceItem::Text(len, Mode::Plain);
-    }
-    token_item(Mode::Plain, held)
+    token_item(mode, held)
 }
 
 // What held bytes begin with that begin with a string, a comment or `<%`.

@@ -1,7 +1,6 @@
 // The passing of skipped text.
 ghost use Rattle.std.specs.Prelude.{◌≡◌, ◌≤◌, ◌<◌, length, take, drop, true, None, IfSome};
 ghost use Rattle.rdlpp_scan.specs.SourceTokens.{line_ends};
-ghost use Rattle.rdlpp_scan.specs.Tokens.{plain_len};
 ghost use Rattle.rdlpp_front.specs.SkippedText.{
   IsPassed,
   IsPassedOnce,
@@ -10,9 +9,7 @@ ghost use Rattle.rdlpp_front.specs.SkippedText.{
   stops_skipping,
 };
 
-use rdlpp_scan::{
-    Directive, Kind, Mode, PlainText, Token, first_token, line_ends_in, plain_text, reserved,
-};
+use rdlpp_scan::{Directive, Kind, Mode, Token, first_token, line_ends_in, plain_text, reserved};
 
 /// How much of skipped text was passed.
 #[derive(Clone, Copy)]
@@ -67,13 +64,15 @@ fn pass_once(mode: Mode, bytes: &[u8]) -> Option<SkippedText>
     ensures inside { IfSome result (λ step. (0 < step.len) × (step.len ≤ length bytes.now)) }
     ensures line_ends { IfSome result (λ step. step.line_ends ≡ line_ends (take step.len bytes.now)) }
 {
-    let text = ordinary_text(mode, bytes);
-    if 0 < text.len {
-        return Some(SkippedText {
-            len: text.len,
-            mode,
-            line_ends: text.lines,
-        });
+    if let Mode::Plain = mode {
+        let text = plain_text(bytes);
+        if 0 < text.len {
+            return Some(SkippedText {
+                len: text.len,
+                mode,
+                line_ends: text.lines,
+            });
+        }
     }
     let token = first_token(mode, bytes);
     let word = &bytes[..token.len];
@@ -85,20 +84,6 @@ fn pass_once(mode: Mode, bytes: &[u8]) -> Option<SkippedText>
         mode: token.next_mode,
         line_ends: line_ends_in(word),
     })
-}
-
-// The ordinary text that a text begins with that stands in `mode`.
-#[tactic(auto, unfolding(rdlpp_scan::specs::SourceTokens::line_ends))]
-fn ordinary_text(mode: Mode, bytes: &[u8]) -> PlainText
-    ensures plain { mode ≡ Mode.Plain → result.len ≡ plain_len bytes.now }
-    ensures some { 0 < result.len → mode ≡ Mode.Plain }
-    ensures inside { result.len ≤ length bytes.now }
-    ensures lines { result.lines ≡ line_ends (take result.len bytes.now) }
-{
-    match mode {
-        Mode::Plain => plain_text(bytes),
-        _ => PlainText { len: 0, lines: 0 },
-    }
 }
 
 // Whether a token with these bytes ends a stretch of skipped text.

@@ -1,9 +1,8 @@
 // The stack of open texts.
 ghost use Rattle.std.specs.Prelude.{[], length, true, IfOk, List, None, ℕ, ◌==◌, ◌<◌, ◌≡◌, ◌≤◌, ◌∷◌, ◌^◌, ◌+◌, ◌*◌, drop, nat_le};
-ghost use Rattle.rdlpp_scan.specs.declared.token.Mode.TheVariants.{Plain};
 ghost use Rattle.std.specs.Option.{option_map};
 ghost use Rattle.rdlpp_table.specs.View.{macro_at};
-ghost use Rattle.rdlpp_meaning.specs.Opens.{open_body, OpenBody, Texts};
+ghost use Rattle.rdlpp_meaning.specs.Opens.{open_body, Texts};
 ghost use Rattle.rdlpp_texts.specs.TextItems.{IsPeekAhead};
 ghost use Rattle.rdlpp_texts.specs.Opened.{bound_by, is_spent, kept_by, moved_to, open_of, IsNoBody, StaysOutermost};
 ghost use Rattle.rdlpp_texts.specs.Places.{source_text, texts_of};

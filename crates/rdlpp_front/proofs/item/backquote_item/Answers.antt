@@ -35,12 +35,14 @@ pub returns-in-None : goal.returns-in-None
 returns-in-None c =
     let held = c.args.held.now in
     let letter : is_letter (slice_index held 1) ≡ true = sym (c.if-is_letter.ensures ∙ ap is_letter c.byte_at.ensures.value) in
-    let kind = back_at_letter held c.requires.backquote letter in
-    (refl, record {
-      kind = kind;
-      whole = name_len held c.word_bytes-len.result c.requires.backquote kind c.word_bytes-len.ensures.value;
-      free = sym c.reserved.ensures.reserved ∙ ap is_some c.in-None.is;
-    })
+    let kind = back_at_letter held c.requires.backquote letter in (
+      refl,
+      record {
+        kind = kind;
+        whole = name_len held c.word_bytes-len.result c.requires.backquote kind c.word_bytes-len.ensures.value;
+        free = sym c.reserved.ensures.reserved ∙ ap is_some c.in-None.is;
+      },
+    )
 
 pub returns-else-is_letter : goal.returns-else-is_letter
 returns-else-is_letter c =

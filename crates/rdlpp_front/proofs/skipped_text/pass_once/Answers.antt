@@ -1,6 +1,9 @@
-use Rattle.std.proofs.Common.{sym, ◌∙◌, arith}
+use Rattle.std.proofs.Common.{◌≡◌, sym, ◌∙◌, arith}
+use Rattle.rdlpp_scan.specs.Tokens.{plain_len}
+use Rattle.rdlpp_scan.specs.declared.token.Mode.TheVariants.{Plain}
 use Rattle.rdlpp_front.proofs.Stretches.{passes_token, stops_by}
 use Rattle.rdlpp_front.proofs.skipped_text.pass_once.Goals as goal
+use Rattle.rdlpp_front.proofs.skipped_text.pass_once.Goals.{in-Plain+else-text-gt0, in_default}
 
 pub returns-then-stops_skipping-clause-none : goal.returns-then-stops_skipping-clause-none
 returns-then-stops_skipping-clause-none c =
@@ -8,4 +11,8 @@ returns-then-stops_skipping-clause-none c =
 
 pub returns-clause-some : goal.returns-clause-some
 returns-clause-some c =
-    passes_token c.args.mode c.args.bytes.now c.first_token-token.result c.stops_skipping.result (λ e. let same = c.ordinary_text-text.ensures.plain e in omega arith) c.first_token-token.ensures.value c.stops_skipping.ensures c.if-stops_skipping.false
+    let none : c.args.mode ≡ Plain → plain_len c.args.bytes.now ≡ 0 = λ plain. elim c.match-mode.branch [
+      | in-Plain+else-text-gt0 w ↦ omega (arith, w.plain_text-text.ensures.len, w.if-text-gt0.false)
+      | in_default w ↦ absurd (w.in_default.not-Plain plain)
+    ] in
+    passes_token c.args.mode c.args.bytes.now c.first_token-token.result c.stops_skipping.result none c.first_token-token.ensures.value c.stops_skipping.ensures c.if-stops_skipping.false

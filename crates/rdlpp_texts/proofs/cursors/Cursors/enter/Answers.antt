@@ -1,4 +1,4 @@
-use Rattle.std.proofs.Common.{◌≡◌, ◌∙◌, ◌<◌, ◌-◌, [], List, ℕ, ap, length, take, drop, refl, sym, arith, append-nil}
+use Rattle.std.proofs.Common.{◌∙◌, ◌<◌, [], List, ℕ, ap, length, drop, refl, sym, arith, append-nil}
 use Rattle.rdlpp_meaning.specs.Opens.{Open}
 use Rattle.rdlpp_table.proofs.Sizes.{count_items}
 use Rattle.rdlpp_texts.specs.Opened.{opens_of}

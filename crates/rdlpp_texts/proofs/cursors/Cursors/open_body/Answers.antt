@@ -4,7 +4,8 @@ use Rattle.rdlpp_meaning.specs.Opens.{Open, OpenBody, open_body}
 use Rattle.rdlpp_table.proofs.Sizes.{count_items}
 use Rattle.rdlpp_texts.specs.Opened.{CursorsView}
 use Rattle.rdlpp_texts.proofs.Passing.{sound-opened}
-use Rattle.rdlpp_texts.proofs.Stacking.{body-opens, lent-body, lent-bounded, room-first, stack-pushed, view-is}
+use Rattle.rdlpp_texts.proofs.Stacking.{body-opens, lent-body, lent-bounded, stack-pushed, view-is}
+use Rattle.rdlpp_texts.proofs.Calling.{room-closed}
 use Rattle.rdlpp_texts.proofs.cursors.Cursors.open_body.Goals as goal
 
 pub body_bounds-bounds-requires : goal.body_bounds-bounds-requires
@@ -12,9 +13,7 @@ body_bounds-bounds-requires c = lent-bounded c.self.inside.frames.items _ c.self
 
 pub free_frame-first-requires-clause-room : goal.free_frame-first-requires-clause-room
 free_frame-first-requires-clause-room c =
-    let none = ap (λ (os : List Open). length os) (rw (← c.self.view_is) at c.requires.closed) in
-    let some = rw (← c.self.view_is) at c.requires.room in
-    room-first c.self.inside.frames c.self.inside.depth c.self.inside.first c.self.inside.bindings.items (omega (arith, none, some))
+    room-closed c.self.inside.frames c.self.inside.depth c.self.inside.first c.self.inside.bindings.items (rw (← c.self.view_is) at c.requires.closed) (rw (← c.self.view_is) at c.requires.room)
 
 pub invariant_of-self : goal.invariant_of-self
 invariant_of-self c =
