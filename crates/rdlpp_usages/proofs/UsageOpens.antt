@@ -1,5 +1,5 @@
 -- A usage in a source whose call is read and bound: what remains, and the opening of its body.
-use Rattle.std.proofs.Common.{◌≡◌, ℕ, suc, Bool, false, List, [], ◌∷◌, ◌++◌, map, take, drop, Option, None, Some, refl, sym, ap, ◌∙◌, inl, inr, zero, ◌<◌, true, length, subst, arith, ◌+◌, ◌≤◌, option_map, IsTrue, if◌then◌else◌, is_some, unwrap_or, ◌==◌, ◌↔◌, eqb-true, true≢false, drop-drop, length-append, length-drop, length-take, length-take-le, take-append-drop}
+use Rattle.std.proofs.Common.{◌≡◌, ℕ, suc, Bool, false, List, [], ◌∷◌, ◌++◌, map, take, drop, Option, None, Some, refl, sym, ap, ◌∙◌, inl, inr, zero, ◌<◌, true, length, subst, arith, ◌+◌, ◌≤◌, option_map, if◌then◌else◌, is_some, unwrap_or, ◌==◌, eqb-true, true≢false, drop-drop, length-append, length-drop, length-take, length-take-le, take-append-drop}
 use Rattle.std.proofs.lemmas.Bool.{false≢true}
 use Rattle.std.proofs.lemmas.Grind.{flat_map-append}
 use Rattle.std.proofs.lemmas.List.{append_cancel_right, length-map}
