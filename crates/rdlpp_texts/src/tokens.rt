@@ -52,14 +52,21 @@ pub(crate) fn token_in_call(mode: Mode, text: &[u8]) -> CallToken
             len: 1,
             next_mode: Mode::Plain,
         },
-        _ => {
-            let token = first_token(mode, text);
-            CallToken {
-                role: role_of(token.kind, text[0]),
-                len: token.len,
-                next_mode: token.next_mode,
-            }
-        }
+        _ => other_token(mode, text),
+    }
+}
+
+// The first token of a text that isn't empty, by its kind.
+#[inline(always)]
+fn other_token(mode: Mode, text: &[u8]) -> CallToken
+    requires { 0 < length text.now }
+    ensures { IsFirstToken mode text.now result }
+{
+    let token = first_token(mode, text);
+    CallToken {
+        role: role_of(token.kind, text[0]),
+        len: token.len,
+        next_mode: token.next_mode,
     }
 }
 
