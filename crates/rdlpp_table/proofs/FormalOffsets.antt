@@ -249,6 +249,12 @@ rest_size fs rest before formal_offsets i m =
 pub marking_at : (fs : List Formal) (list rest before formal_offsets : List ℕ) (i : ℕ) → flat_map formal_bytes fs ≡ list → IsMarking fs rest before formal_offsets i → sum_by formal_size (take i fs) + length rest ≡ length list
 marking_at fs list rest before formal_offsets i h m = rest_size fs rest before formal_offsets i m ∙ (sym (length_list_bytes fs) ∙ ap length h)
 
+-- both halves of a number are put behind others
+pub two_halves : (old one both : List ℕ) (start : ℕ) → one ≡ old ++ (start % 65536) ∷ [] → both ≡ one ++ (start / 65536) ∷ [] → both ≡ old ++ halves (start ∷ [])
+unfolding halves
+two_halves old one both start e f =
+    f ∙ ap (λ (l : List ℕ). l ++ (start / 65536) ∷ []) e ∙ append_assoc old ((start % 65536) ∷ []) ((start / 65536) ∷ [])
+
 -- one more place is kept
 pub marking_more : (fs : List Formal) (list rest following before formal_offsets more : List ℕ) (i start : ℕ) → flat_map formal_bytes fs ≡ list → list_all is_plain_formal fs ≡ true → i < length fs → IsMarking fs rest before formal_offsets i → start ≡ length list - length rest → more ≡ formal_offsets ++ halves (start ∷ []) → following ≡ (formal_read rest).following → IsMarking fs following before more (i + 1)
 marking_more fs list rest following before formal_offsets more i start h p k m s e b =

@@ -36,16 +36,6 @@ pub(crate) fn name_in<'a>(bytes: &'a [u8], entry: &Entry) -> &'a [u8]
     &bytes[start..start + entry.name_len as usize]
 }
 
-// The formals of a definition, each with a comma after it.
-#[tactic(auto, unfolding(crate::specs::Store::list_of, crate::specs::Store::entry_end, crate::specs::Store::body_start, crate::specs::Store::list_start))]
-pub(crate) fn list_in<'a>(bytes: &'a [u8], entry: &Entry) -> &'a [u8]
-    requires { entry_end entry.now ≤ length bytes.now }
-    ensures { result.now ≡ list_of bytes.now entry.now }
-{
-    let start = entry.start as usize + entry.name_len as usize;
-    &bytes[start..start + entry.list_len as usize]
-}
-
 // How many formals a definition has, where it has a list.
 pub(crate) fn arity_in(entry: &Entry) -> Option<usize>
     ensures { result ≡ entry.now.arity }
@@ -71,6 +61,7 @@ pub(crate) fn offsets_len(entry: &Entry) -> usize
 
 // The formals of a definition as they lie in a table, and their offsets among those of all macros, where so many that the entry counts
 // are given up.
+#[tactic(auto, unfolding(crate::specs::Store::list_of, crate::specs::Store::entry_end, crate::specs::Store::body_start, crate::specs::Store::list_start))]
 pub(crate) fn listed_in<'a>(
     bytes: &'a [u8],
     formal_offsets: &'a [u16],
@@ -84,10 +75,11 @@ pub(crate) fn listed_in<'a>(
     ensures count { result.count ≡ unwrap_or entry.now.arity 0 }
     ensures formal_offsets { result.formal_offsets.now ≡ slice_range formal_offsets.now (entry.now.formal_offsets - given_up) (entry.now.formal_offsets - given_up + offsets_len entry.now) }
 {
+    let start = entry.start as usize + entry.name_len as usize;
     let first = entry.formal_offsets as usize - given_up;
     let end = first + offsets_len(entry);
     StoredFormals {
-        list: list_in(bytes, entry),
+        list: &bytes[start..start + entry.list_len as usize],
         count: arity_in(entry).unwrap_or(0),
         formal_offsets: &formal_offsets[first..end],
     }

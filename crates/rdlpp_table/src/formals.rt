@@ -1,7 +1,6 @@
 // The formal list of a definition.
 ghost use Rattle.std.specs.Prelude.{
   [],
-  bytes_eq,
   is_some,
   length,
   map,
@@ -24,7 +23,7 @@ ghost use Rattle.std.specs.Prelude.{
   ◌≤◌,
   ◌∷◌,
 };
-ghost use Rattle.std.specs.List.{flat_map, list_any};
+ghost use Rattle.std.specs.List.{flat_map};
 ghost use Rattle.rdlpp_lines.specs.Continuations.{joined};
 ghost use Rattle.rdlpp_table.specs.Define.{default_in, formals_in, formals_of_list, FormalListFault};
 ghost use Rattle.rdlpp_table.specs.Formals.{after_told, default_after, fault_after, formal_told, is_told, listed, IsDefault, IsPart, IsRead};
@@ -39,13 +38,6 @@ use rdlpp_lines::{append_part, append_trimmed, split_first, trimmed_len};
 // The most formals of a macro (this project's profile).
 const MOST_FORMALS: usize = 255;
 
-// Whether a name is among names.
-fn is_among(names: &[&[u8]], name: &[u8]) -> bool
-    ensures { result ≡ list_any (λ n. bytes_eq n.now name.now) names.now }
-{
-    names.iter().any(|other| *other == name)
-}
-
 // What is wrong with the name of a formal, behind formals of such names.
 fn formal_fault(names: &[&[u8]], name: &[u8]) -> Option<DefineKind>
     ensures { result ≡ fault_after (map (λ n. n.now) names.now) name.now }
@@ -56,7 +48,7 @@ fn formal_fault(names: &[&[u8]], name: &[u8]) -> Option<DefineKind>
     if name.len() > MOST_NAME_BYTES {
         return Some(DefineKind::NameTooLong);
     }
-    if is_among(names, name) {
+    if names.contains(&name) {
         return Some(DefineKind::FormalTwice);
     }
     if names.len() >= MOST_FORMALS {

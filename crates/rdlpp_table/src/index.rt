@@ -6,7 +6,7 @@ ghost use Rattle.std.specs.Prelude.{◌≡◌, ℕ, ◌+◌, ◌<◌, ◌≤◌,
 ghost use Rattle.std.specs.List.{copy_within, flat_map, list_all, remove_range};
 ghost use Rattle.rdlpp_table.specs.Entries.{AreWithin};
 ghost use Rattle.rdlpp_table.specs.FormalOffsets.{offsets_of};
-ghost use Rattle.rdlpp_table.specs.Index.{bucket_of, closed, names_of, IsCounted, IsFound, IsIndexed, IsMiddle};
+ghost use Rattle.rdlpp_table.specs.Index.{bucket_of, closed, names_of, IsCounted, IsFound, IsIndexed};
 ghost use Rattle.rdlpp_table.specs.IndexView.{empty_index, places_in, AreMoved, Enters, IsInBucket, IsSpaced, Leaves};
 ghost use Rattle.rdlpp_table.specs.Store.{formals_read, is_plain_formal, live, macros_in, IsStored};
 ghost use Rattle.rdlpp_table.specs.Table.{formal_bytes};
@@ -18,6 +18,7 @@ use crate::fault::NoMemory;
 use crate::given_up::{GivenUp, live};
 use crate::lookup::{LookupKey, Steps};
 use crate::offsets::push_offsets;
+use crate::removal::cut;
 use std::alloc::Global;
 use std::cmp::Ordering;
 use std::marker::Model;
@@ -56,14 +57,6 @@ impl Model for Index {
     ghost invariant = { λ x. IsArranged (vec_len x.order) (vec_capacity x.order) x.slack_before x.bucket_starts x.group_slack x.most_places };
 }
 
-// A place between two others, with at most half of what is between them on either side.
-fn middle_of(low: usize, high: usize) -> usize
-    requires { low < high }
-    ensures { IsMiddle low high result }
-{
-    low + (high - low) / 2
-}
-
 // The place in the index of the entry of a name, or the place where it would stand, by halving
 // the bucket of the index in which the name stands.
 pub(crate) fn seek(
@@ -85,7 +78,7 @@ pub(crate) fn seek(
     let mut low = index.start(bucket);
     let mut high = index.start(bucket + 1);
     while low < high {
-        let middle = middle_of(low, high);
+        let middle = low + (high - low) / 2;
         let name = name_in(bytes, &entries[index.place(middle, bucket)]);
         match key.compare(name, steps) {
             Ordering::Less => low = middle + 1,
@@ -192,18 +185,6 @@ fn slack_for(places: usize) -> usize
     ensures { result ≡ places / 256 + 4 }
 {
     places / 256 + 4
-}
-
-// How much slack each group keeps where no place is left in a list of so many items: what it gets first, or none in a shorter list.
-fn first_slack(len: usize) -> usize
-    ensures few { result ≤ 4 }
-    ensures inside { 32 * result ≤ len }
-{
-    if len < GROUPS * slack_for(0) {
-        0
-    } else {
-        slack_for(0)
-    }
 }
 
 // How much slack lies before each group where all have as much.
@@ -313,17 +294,6 @@ fn make_slack(
     }
 }
 
-// Takes numbers out of the middle of a list: those behind move to the front as one block.
-fn cut_numbers(order: &mut Vec<u16>, from: usize, to: usize)
-    requires { (from ≤ to) × (to ≤ vec_len order.old) }
-    ensures items { order.new.items ≡ remove_range order.old.items from to }
-    ensures capacity { vec_capacity order.new ≡ vec_capacity order.old }
-{
-    let count = order.len();
-    order.copy_within(to..count, from);
-    order.truncate(count - (to - from));
-}
-
 impl Index {
     // An index with room for so many places and for so many offsets.
     #[inline(always)]
@@ -348,11 +318,11 @@ impl Index {
         }
     }
 
-    // Takes out all places and all offsets. The slack that each group gets first stays, where the list is as long as that.
+    // Takes out all places and all offsets. The slack that each group gets first stays, or what a shorter list has room for.
     pub(crate) fn clear(&mut self)
         ensures { self.new ≡ empty_index self.old.room }
     {
-        let slack = first_slack(self.order.len());
+        let slack = slack_for(0).min(self.order.len() / GROUPS);
         self.order.truncate(GROUPS * slack);
         self.slack_before = even_slack(slack);
         self.group_slack = slack;
@@ -445,7 +415,7 @@ impl Index {
     {
         if from < to {
             let first = offsets_start(&self.bucket_starts, &self.slack_before);
-            cut_numbers(&mut self.order, first + from, first + to);
+            cut(&mut self.order, first + from, first + to);
         }
     }
 }

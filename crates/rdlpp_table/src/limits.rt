@@ -83,7 +83,7 @@ impl Limits {
     }
 
     // The first limit, in the order of the fields, that is out of its range.
-    #[tactic(auto, unfolding(crate::specs::Limits::limit_fault))]
+    #[tactic(auto, unfolding(crate::specs::Limits::limit_fault, crate::specs::Limits::is_within))]
     fn fault(&self) -> Option<LimitFault>
         ensures { result ≡ limit_fault self.now }
     {
@@ -111,7 +111,7 @@ impl Limits {
         if !is_within(1, 4_096, self.conditions) {
             return Some(LimitFault::Conditions);
         }
-        if !is_output_limit(self.output_bytes) {
+        if self.output_bytes > u64::MAX {
             return Some(LimitFault::OutputBytes);
         }
         None
@@ -123,12 +123,4 @@ fn is_within(least: usize, greatest: usize, n: usize) -> bool
     ensures { result ≡ is_within least greatest n }
 {
     least <= n && n <= greatest
-}
-
-// Whether a limit on the output is in its range, which has every number.
-#[tactic(auto, unfolding(crate::specs::Limits::is_within))]
-fn is_output_limit(n: u64) -> bool
-    ensures { result ≡ is_within 0 18446744073709551615 n }
-{
-    n <= u64::MAX
 }

@@ -34,14 +34,6 @@ impl Steps {
     {
         Steps { tag: Tag::empty() }
     }
-
-    // One comparison more.
-    fn tick(&mut self)
-        ensures { self.new ≡ self.old + 1 }
-    {
-        let next = Tag::of::<Tag, OneMore>(&self.tag);
-        self.tag = next;
-    }
 }
 
 // A name that is looked up. Only `compare` reads it, so that each comparison is a step.
@@ -62,7 +54,8 @@ impl<'a> LookupKey<'a> {
         ensures order { result ≡ name_order other.now self.now.name.now }
         ensures step { steps.new ≡ steps.old + 1 }
     {
-        steps.tick();
+        let next = Tag::of::<Tag, OneMore>(&steps.tag);
+        steps.tag = next;
         order_of(other, self.name)
     }
 }

@@ -1,7 +1,6 @@
 // The names of macros.
-ghost use Rattle.std.specs.Prelude.{length, MatchResult, None, OnOk, Some, take, true, ◌≡◌, ◌≤◌};
+ghost use Rattle.std.specs.Prelude.{length, MatchResult, None, OnOk, Some, take, ◌≡◌, ◌≤◌};
 ghost use Rattle.rdlpp_scan.specs.Names.{IsWordBytes};
-ghost use Rattle.rdlpp_scan.specs.Reserved.{is_reserved};
 ghost use Rattle.rdlpp_table.specs.Define.{name_fault, refused_word};
 
 use crate::fault::{DefineFault, DefineKind, refusal};
@@ -23,18 +22,6 @@ pub fn word_of(name: &[u8]) -> ArrayString<128>
     word
 }
 
-// The refusal of the name of a directive.
-fn reserved_refusal(name: &[u8]) -> DefineFault
-    requires { is_reserved name.now ≡ true }
-    ensures kind { result.kind ≡ DefineKind.ReservedName }
-    ensures word { result.word.bytes ≡ name.now }
-{
-    DefineFault {
-        kind: DefineKind::ReservedName,
-        word: word_of(name),
-    }
-}
-
 // Whether a name may be that of a macro: it isn't empty, isn't that of a directive, and has at most 128 bytes.
 pub(crate) fn check_name(name: &[u8]) -> Result<(), DefineFault>
     ensures value { MatchResult result (λ _. name_fault name.now ≡ None) (λ fault. (name_fault name.now ≡ Some fault.kind) × (fault.word.bytes ≡ refused_word fault.kind name.now)) }
@@ -44,7 +31,10 @@ pub(crate) fn check_name(name: &[u8]) -> Result<(), DefineFault>
         return Err(refusal(DefineKind::NameExpected));
     }
     if reserved(name).is_some() {
-        return Err(reserved_refusal(name));
+        return Err(DefineFault {
+            kind: DefineKind::ReservedName,
+            word: word_of(name),
+        });
     }
     if name.len() > MOST_NAME_BYTES {
         return Err(refusal(DefineKind::NameTooLong));

@@ -1,7 +1,7 @@
 // The formals of a macro in a table's bytes, and where each of them begins, which is kept where they are long.
-ghost use Rattle.std.specs.Prelude.{[], bytes_eq, false, length, not, replicate, slice_index_or, true, vec_capacity, vec_len, ◌*◌, ◌+◌, ◌++◌, ◌<◌, ◌≡◌, ◌≤◌, ◌^◌, ◌∷◌};
+ghost use Rattle.std.specs.Prelude.{[], bytes_eq, false, length, not, replicate, slice_index_or, true, vec_capacity, vec_len, ◌*◌, ◌+◌, ◌++◌, ◌<◌, ◌≡◌, ◌≤◌, ◌^◌};
 ghost use Rattle.std.specs.List.{flat_map, list_all};
-ghost use Rattle.rdlpp_table.specs.FormalOffsets.{end_in, halves, has_offsets, offset_in, offsets_of};
+ghost use Rattle.rdlpp_table.specs.FormalOffsets.{end_in, has_offsets, offset_in, offsets_of};
 ghost use Rattle.rdlpp_table.specs.Shapes.{shapes_of};
 ghost use Rattle.rdlpp_table.specs.Store.{formal_read, formals_read, is_name_byte, is_plain_formal, AreStoredFormals};
 ghost use Rattle.rdlpp_table.specs.Table.{formal_bytes};
@@ -30,19 +30,7 @@ pub(crate) fn has_offsets(count: usize, size: usize) -> bool
     count <= size / LONG_FORMAL
 }
 
-// Keeps where a formal begins: the low half of that number, and then its high half.
-#[tactic(auto, unfolding(crate::specs::FormalOffsets::halves))]
-fn push_offset(formal_offsets: &mut Vec<u16>, start: usize)
-    requires small { start < 2 ^ 32 }
-    requires room { vec_len formal_offsets.old + 2 ≤ vec_capacity formal_offsets.old }
-    ensures items { formal_offsets.new.items ≡ formal_offsets.old.items ++ halves (start ∷ []) }
-    ensures capacity { vec_capacity formal_offsets.new ≡ vec_capacity formal_offsets.old }
-{
-    formal_offsets.push_reserved((start % 65_536) as u16);
-    formal_offsets.push_reserved((start / 65_536) as u16);
-}
-
-// Keeps where so many formals begin, where they are long.
+// Keeps where so many formals begin, where they are long: of each of these numbers the low half, and then the high half.
 pub(crate) fn push_offsets(formal_offsets: &mut Vec<u16>, list: &[u8], count: usize)
     requires whole { flat_map formal_bytes (formals_read count list.now) ≡ list.now }
     requires plain { list_all is_plain_formal (formals_read count list.now) ≡ true }
@@ -56,7 +44,9 @@ pub(crate) fn push_offsets(formal_offsets: &mut Vec<u16>, list: &[u8], count: us
     }
     let mut rest = list;
     for _ in 0..count {
-        push_offset(formal_offsets, list.len() - rest.len());
+        let start = list.len() - rest.len();
+        formal_offsets.push_reserved((start % 65_536) as u16);
+        formal_offsets.push_reserved((start / 65_536) as u16);
         rest = after_formal(rest, name_len(rest));
     }
 }

@@ -1,7 +1,5 @@
 // Where the text of a body isn't copied as it stands.
-ghost use Rattle.std.specs.Prelude.{[], length, slice_index, slice_index_or, true, ◌+◌, ◌<◌, ◌≡◌, ◌≤◌, ◌^◌};
-ghost use Rattle.std.specs.List.{prefix_len};
-ghost use Rattle.rdlpp_scan.specs.Bytes.{is_inert};
+ghost use Rattle.std.specs.Prelude.{length, slice_index_or, true, ◌+◌, ◌<◌, ◌≡◌, ◌≤◌, ◌^◌};
 ghost use Rattle.rdlpp_scan.specs.Tokens.{token_of};
 ghost use Rattle.rdlpp_scan.specs.declared.token.Mode.TheVariants.{Plain};
 ghost use Rattle.rdlpp_table.specs.Shapes.{AreShapes, shape};
@@ -88,20 +86,7 @@ fn point_at(
     }
 }
 
-// How many inert bytes plain text begins with: none of them is an expansion point, whatever tokens they are.
-#[inline(always)]
-fn inert_len(mode: Mode, text: &[u8]) -> usize
-    ensures plain { 0 < result → mode ≡ Plain }
-    ensures inert { result ≤ prefix_len is_inert text.now }
-    ensures inside { result ≤ length text.now }
-{
-    match mode {
-        Mode::Plain => inert_bytes(text),
-        _ => 0,
-    }
-}
-
-// The first token of a text that isn't empty.
+// The first token of a text that isn't empty. In plain text most tokens are names, which are told by their first byte.
 #[inline(always)]
 fn token_in_body(mode: Mode, text: &[u8]) -> Token
     requires { 0 < length text.now }
@@ -110,27 +95,13 @@ fn token_in_body(mode: Mode, text: &[u8]) -> Token
     ensures inside { result.len ≤ length text.now }
 {
     match mode {
-        Mode::Plain => plain_token(text),
-        _ => first_token(mode, text),
-    }
-}
-
-// The same in plain text: most tokens are names, which are told by their first byte.
-#[inline(always)]
-fn plain_token(text: &[u8]) -> Token
-    requires { 0 < length text.now }
-    ensures value { result ≡ token_of Plain text.now }
-    ensures not_empty { 0 < result.len }
-    ensures inside { result.len ≤ length text.now }
-{
-    if is_letter(text[0]) {
-        return Token {
+        Mode::Plain if is_letter(text[0]) => Token {
             kind: Kind::Name,
             next_mode: Mode::Plain,
             len: word_bytes(text),
-        };
+        },
+        _ => first_token(mode, text),
     }
-    first_token(Mode::Plain, text)
 }
 
 // The first expansion point of a text whose first byte stands at a place, among formals as they lie in a table. It may be told of
@@ -156,11 +127,14 @@ pub(crate) fn next_expansion_point(
     let mut rest = text;
     let mut at = from;
     while !rest.is_empty() {
-        let inert = inert_len(mode, rest);
-        if inert > 0 {
-            at += inert;
-            rest = &rest[inert..];
-            continue;
+        if let Mode::Plain = mode {
+            // No inert byte is an expansion point, whatever tokens these are.
+            let inert = inert_bytes(rest);
+            if inert > 0 {
+                at += inert;
+                rest = &rest[inert..];
+                continue;
+            }
         }
         let token = token_in_body(mode, rest);
         let (here, after) = rest.split_at(token.len);

@@ -1,19 +1,15 @@
 // The first expansion points of a body, which are looked for once and kept in its entry.
-ghost use Rattle.std.specs.Prelude.{drop, length, slice_index, slice_range, IfSome, List, ℕ, ◌+◌, ◌<◌, ◌≡◌, ◌≤◌, ◌^◌};
-ghost use Rattle.rdlpp_scan.specs.Bytes.{is_word};
+ghost use Rattle.std.specs.Prelude.{length, slice_range, IfSome, List, ℕ, ◌+◌, ◌<◌, ◌≡◌, ◌≤◌, ◌^◌};
 ghost use Rattle.rdlpp_table.specs.PointCache.{
   before_point,
   plain_argument_kept,
   endless,
   cached_points,
-  is_cut,
   kept_from,
   kept_of,
-  kept_point,
   placed,
   point_by,
   point_end,
-  point_kept,
   point_known,
   point_within,
 };
@@ -126,16 +122,6 @@ fn point_by(kind: PackedKind, at: usize, len: usize, place: usize) -> Option<Exp
     }
 }
 
-// The expansion point that is kept, where it is known.
-#[tactic(auto, unfolding(crate::specs::PointCache::point_kept))]
-fn point_kept(kept: PackedPoint) -> Option<ExpansionPoint>
-    ensures { result ≡ point_kept kept }
-{
-    let len = kept.len as usize;
-    let at = (kept.end as usize).saturating_sub(len);
-    point_by(kept.kind, at, len, kept.place as usize)
-}
-
 // A text that begins at a place, up to its first expansion point.
 #[tactic(auto, unfolding(crate::specs::PointCache::before_point, crate::specs::PointCache::point_end))]
 fn before_point(point: ExpansionPoint, from: usize, text: &[u8]) -> &[u8]
@@ -159,18 +145,8 @@ fn plain_argument_kept(text: &[u8]) -> u8
     plain_argument_bytes(&text[..near]) as u8
 }
 
-// An expansion point of a text that begins at a place, as it is kept.
-#[tactic(auto, unfolding(crate::specs::PointCache::kept_point))]
-fn kept_point(point: ExpansionPoint, from: usize, text: &[u8]) -> PackedPoint
-    requires { point_end point ≤ from + length text.now }
-    ensures value { result ≡ kept_point point from text.now }
-    ensures end { result.end < 65535 → result.end ≡ point_end point }
-{
-    kept_of(point, plain_argument_kept(before_point(point, from, text)))
-}
-
 // The first expansion point of a body from a place on.
-#[tactic(auto, unfolding(crate::specs::PointCache::kept_from, crate::specs::PointCache::endless))]
+#[tactic(auto, unfolding(crate::specs::PointCache::kept_from, crate::specs::PointCache::kept_point, crate::specs::PointCache::endless))]
 fn kept_from(formals: &StoredFormals, shapes: &[bool], body: &[u8], from: u16) -> PackedPoint
     requires listed { AreStoredFormals formals.now.count formals.now.list.now formals.now.formal_offsets.now }
     requires told { AreShapes (formals_read formals.now.count formals.now.list.now) shapes.now }
@@ -182,11 +158,8 @@ fn kept_from(formals: &StoredFormals, shapes: &[bool], body: &[u8], from: u16) -
     if from < 65535 {
         let from = from as usize;
         let text = &body[from..];
-        kept_point(
-            next_expansion_point(formals, shapes, text, from),
-            from,
-            text,
-        )
+        let point = next_expansion_point(formals, shapes, text, from);
+        kept_of(point, plain_argument_kept(before_point(point, from, text)))
     } else {
         endless(1, 0)
     }
@@ -211,45 +184,28 @@ pub(crate) fn cached_points(formals: &StoredFormals, body: &[u8]) -> PointCache
     PointCache { all }
 }
 
-// Whether it is known that no token goes on at a place of a body that is read from another one on, behind plain argument bytes: it
-// is that place, or an inert byte stands before it.
-#[tactic(auto, unfolding(crate::specs::PointCache::is_cut))]
-fn is_cut(body: &[u8], start: usize, from: usize) -> bool
-    requires order { start ≤ from }
-    requires inside { from ≤ length body.now }
-    ensures { result ≡ is_cut body.now start from }
-{
-    from == start || inert_bytes(&body[from - 1..from]) == 1
-}
-
-// Whether a word may go on at a place of a body.
-fn is_word_at(body: &[u8], place: usize) -> bool
-    requires { place < length body.now }
-    ensures { result ≡ is_word (slice_index body.now place) }
-{
-    word_bytes(&body[place..place + 1]) == 1
-}
-
 // The first expansion point of a range of a body, behind whose front no token goes on, where the expansion point that is kept as
 // the first one from a place on tells it.
-#[tactic(auto, unfolding(crate::specs::PointCache::point_within))]
+#[tactic(auto, unfolding(crate::specs::PointCache::point_within, crate::specs::PointCache::point_kept))]
 fn point_within(body: &[u8], reach: usize, kept: PackedPoint, to: usize) -> Option<ExpansionPoint>
     requires { to ≤ length body.now }
     ensures { result ≡ point_within body.now reach kept to }
 {
     let end = kept.end as usize;
-    let at = end.saturating_sub(kept.len as usize);
+    let len = kept.len as usize;
+    let at = end.saturating_sub(len);
     if to == body.len() || (kept.len > 0 && (end <= to && at <= reach)) {
-        return point_kept(kept);
+        return point_by(kept.kind, at, len, kept.place as usize);
     }
-    if to <= at && (to <= reach && !is_word_at(body, to)) {
+    if to <= at && (to <= reach && word_bytes(&body[to..to + 1]) == 0) {
         return Some(ExpansionPoint::None);
     }
     None
 }
 
-// The first expansion point of a range of a body, where the one that is kept as the first one from a place on tells it.
-#[tactic(auto, unfolding(crate::specs::PointCache::point_known))]
+// The first expansion point of a range of a body, where the one that is kept as the first one from a place on tells it. No token goes
+// on at that place, nor behind plain argument bytes and an inert byte.
+#[tactic(auto, unfolding(crate::specs::PointCache::point_known, crate::specs::PointCache::is_cut))]
 fn point_known(
     body: &[u8],
     start: u16,
@@ -263,7 +219,7 @@ fn point_known(
 {
     let start = start as usize;
     let reach = start + kept.plain_argument as usize;
-    if from == start || (from <= reach && is_cut(body, start, from)) {
+    if from == start || (from <= reach && inert_bytes(&body[from - 1..from]) == 1) {
         point_within(body, reach, kept, to)
     } else {
         None

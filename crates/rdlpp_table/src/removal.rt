@@ -1,5 +1,5 @@
 // A definition is taken out of a table's lists, which close up or give up their front.
-ghost use Rattle.std.specs.Prelude.{◌≡◌, ◌+◌, ◌-◌, ◌*◌, ◌<◌, ◌≤◌, ◌++◌, ◌^◌, drop, length, map, remove, slice_range, take, vec_len, vec_capacity, bytes_eq, nat_le, nat_lt, ◌&&◌, ◌||◌};
+ghost use Rattle.std.specs.Prelude.{◌≡◌, ◌+◌, ◌-◌, ◌*◌, ◌<◌, ◌≤◌, ◌++◌, ◌^◌, drop, length, map, remove, slice_range, take, vec_len, vec_capacity, bytes_eq, ◌&&◌, ◌||◌};
 ghost use Rattle.rdlpp_table.specs.Table.{without};
 ghost use Rattle.std.specs.List.{remove_range, IsDistinct};
 ghost use Rattle.rdlpp_table.specs.Entries.{moved_down, moved_up, AreAfter, AreLow};
@@ -91,15 +91,15 @@ fn cover_entry(
     draw_up(&mut entries[front..front + place + 1], size, formal_offsets);
 }
 
-// Takes bytes out of the middle: those behind move to the front as one block.
-fn cut(bytes: &mut Vec<u8>, from: usize, to: usize)
-    requires { (from ≤ to) × (to ≤ vec_len bytes.old) }
-    ensures items { bytes.new.items ≡ remove_range bytes.old.items from to }
-    ensures capacity { vec_capacity bytes.new ≡ vec_capacity bytes.old }
+// Takes bytes or numbers out of the middle: those behind move to the front as one block.
+pub(crate) fn cut<T: Copy>(list: &mut Vec<T>, from: usize, to: usize)
+    requires { (from ≤ to) × (to ≤ vec_len list.old) }
+    ensures items { list.new.items ≡ remove_range list.old.items from to }
+    ensures capacity { vec_capacity list.new ≡ vec_capacity list.old }
 {
-    let count = bytes.len();
-    bytes.copy_within(to..count, from);
-    bytes.truncate(count - (to - from));
+    let count = list.len();
+    list.copy_within(to..count, from);
+    list.truncate(count - (to - from));
 }
 
 // Moves the bytes between two places so much further to the back, over those behind them.
@@ -117,15 +117,6 @@ pub(crate) fn size_of_entry(entry: &Entry) -> usize
     ensures { result ≡ entry.now.name_len + entry.now.list_len + entry.now.body_len }
 {
     entry.name_len as usize + entry.list_len as usize + entry.body_len as usize
-}
-
-// Whether there is room behind for one more macro of so many bytes, or something is given up already, so that a move of all to the
-// front is due once the room behind is used up.
-fn has_room(bytes: &Vec<u8>, entries: &Vec<Entry>, front: &GivenUp, size: usize) -> bool
-    ensures { result ≡ (nat_lt 0 front.now.entries || nat_le size (vec_capacity bytes.now - vec_len bytes.now) && nat_lt (vec_len entries.now) (vec_capacity entries.now)) }
-{
-    front.entries > 0
-        || (size <= bytes.capacity() - bytes.len() && entries.len() < entries.capacity())
 }
 
 // Takes the bytes and the entry of the macro at a place out of those of a table. Where what stands before the macro is less than a
@@ -150,7 +141,9 @@ fn take_stored(bytes: &mut Vec<u8>, entries: &mut Vec<Entry>, front: &mut GivenU
     let start = entry.start as usize;
     let before = (start - front.bytes) + ENTRY_BYTES * place;
     let following = (bytes.len() - (start + size)) + ENTRY_BYTES * (entries.len() - (at + 1));
-    if before < following / 3 && has_room(bytes, entries, front, size) {
+    let has_room = front.entries > 0
+        || (size <= bytes.capacity() - bytes.len() && entries.len() < entries.capacity());
+    if before < following / 3 && has_room {
         cover(bytes, front.bytes, start, size);
         cover_entry(entries, front.entries, place, size, formal_offsets);
         front.bytes += size;

@@ -2,16 +2,12 @@
 ghost use Rattle.std.specs.Prelude.{
   [],
   bytes_eq,
-  drop,
   length,
   map,
-  nat_lt,
   slice_range,
-  take,
   unwrap_or,
   vec_capacity,
   vec_len,
-  List,
   None,
   Some,
   ◌*◌,
@@ -190,14 +186,6 @@ pub(crate) fn usage_without(
     }
 }
 
-// Whether more bytes or more entries are given up at the fronts of a table's lists than are there.
-fn is_sparse(bytes: &Vec<u8>, entries: &Vec<Entry>, front: &GivenUp) -> bool
-    requires { (front.now.bytes ≤ vec_len bytes.now) × (front.now.entries ≤ vec_len entries.now) }
-    ensures { result ≡ (nat_lt (vec_len bytes.now - front.now.bytes) front.now.bytes || nat_lt (vec_len entries.now - front.now.entries) front.now.entries) }
-{
-    front.bytes > bytes.len() - front.bytes || front.entries > entries.len() - front.entries
-}
-
 // Where there is no room behind for so many bytes or for one more entry, or more is given up than is there, all moves to the front:
 // room that was given up there becomes room behind. So no more is given up then than is there. A move is paid for by the last removal
 // that gave up room, which left in place three quarters or more of what there was, and by the definitions since.
@@ -215,7 +203,8 @@ fn make_room(bytes: &mut Vec<u8>, entries: &mut Vec<Entry>, front: &mut GivenUp,
 {
     if bytes.capacity() - bytes.len() < size
         || entries.len() == entries.capacity()
-        || is_sparse(bytes, entries, front)
+        || front.bytes > bytes.len() - front.bytes
+        || front.entries > entries.len() - front.entries
     {
         settle(bytes, entries, front);
     }

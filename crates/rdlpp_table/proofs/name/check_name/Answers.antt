@@ -1,9 +1,10 @@
-use Rattle.std.proofs.Common.{sym, ◌∙◌}
+use Rattle.std.proofs.Common.{refl, sym, take_all, ◌∙◌}
+use Rattle.rdlpp_scan.proofs.DirectiveNames.{reserved_short, reserved_word}
 use Rattle.rdlpp_table.proofs.RoundTrip.{empty_name, reserved_name, long_name, good_name}
 use Rattle.rdlpp_table.proofs.name.check_name.Goals as goal
 
-pub reserved_refusal-requires : goal.reserved_refusal-requires
-reserved_refusal-requires c = sym c.reserved.ensures.reserved ∙ (sym c.is_some.ensures ∙ c.if-is_some.true)
+pub word_of-requires : goal.word_of-requires
+word_of-requires c = reserved_word c.args.name.now (sym c.reserved.ensures.reserved ∙ (sym c.is_some.ensures ∙ c.if-is_some.true))
 
 pub returns-then-is_empty-clause-value : goal.returns-then-is_empty-clause-value
 returns-then-is_empty-clause-value c =
@@ -12,7 +13,7 @@ returns-then-is_empty-clause-value c =
 pub returns-then-is_some-clause-value : goal.returns-then-is_some-clause-value
 returns-then-is_some-clause-value c =
     let reserved = sym c.reserved.ensures.reserved ∙ (sym c.is_some.ensures ∙ c.if-is_some.true) in
-    let r = reserved_name c.args.name.now _ _ (sym c.is_empty.ensures ∙ c.if-is_empty.false) reserved c.reserved_refusal.ensures.kind c.reserved_refusal.ensures.word in (r.why, r.word_is)
+    let r = reserved_name c.args.name.now _ _ (sym c.is_empty.ensures ∙ c.if-is_empty.false) reserved refl (c.word_of.ensures ∙ take_all 128 c.args.name.now (reserved_short c.args.name.now reserved)) in (r.why, r.word_is)
 
 pub returns-then-name-gt-MOST_NAME_BYTES-clause-value : goal.returns-then-name-gt-MOST_NAME_BYTES-clause-value
 returns-then-name-gt-MOST_NAME_BYTES-clause-value c =
