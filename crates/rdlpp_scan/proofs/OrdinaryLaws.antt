@@ -1,5 +1,5 @@
 -- Ordinary text in a source, and passed byte by byte or block by block.
-use Rattle.std.proofs.Common.{◌≡◌, ℕ, zero, suc, ◌+◌, ◌<◌, ◌≤◌, true, false, List, ◌∷◌, ◌++◌, length, take, drop, refl, sym, ap, ◌∙◌, inl, inr, ⊎_elim, arith, Bool, cond, subst, Option, None, Some, ◌*◌, ◌-◌, ◌^◌, ◌%◌, ◌||◌, eqb, eq-eqb, not, map, take-take, slice_index, get_or, replicate, w8, ◌&&◌, nat_lt, mul_assoc, pow-suc, eqb-true, append_assoc, drop-drop, ext_get_or, length-drop, length-take, length-take-le, take-append-drop, []}
+use Rattle.std.proofs.Common.{◌≡◌, ℕ, zero, suc, ◌+◌, ◌<◌, ◌≤◌, true, false, List, ◌∷◌, ◌++◌, length, take, drop, refl, sym, ap, ◌∙◌, inl, inr, ⊎_elim, arith, Bool, cond, subst, Option, None, Some, ◌*◌, ◌-◌, ◌^◌, ◌%◌, ◌||◌, eqb, eq-eqb, not, map, take-take, slice_index, get_or, replicate, w8, ◌&&◌, nat_lt, mul_assoc, pow-suc, eqb-true, ne_eqb, ◌≢◌, append_assoc, drop-drop, ext_get_or, length-drop, length-take, length-take-le, take-append-drop, []}
 use Rattle.std.specs.List.{prefix_len}
 use Rattle.std.proofs.Math.Seq.{take-length}
 use Rattle.std.proofs.lemmas.Bool.{both_ways, cases_Bool, cases_lt, cond_both, false≢true, not-true, or_cases, or_parts}
@@ -267,6 +267,11 @@ source_step_gives c InStr opened line bs = gives_token c opened line InStr bs
 source_step_gives c InBlock opened line bs = gives_token c opened line InBlock bs
 
 -- Ordinary text that is passed byte by byte and block by block.
+
+-- a byte that is none of the four is no mark
+pub no_mark : (b : ℕ) → b ≢ 96 → b ≢ 34 → b ≢ 47 → b ≢ 60 → is_mark b ≡ false
+unfolding is_mark
+no_mark b p q r s = rw (ne_eqb b 96 p, ne_eqb b 34 q, ne_eqb b 47 r, ne_eqb b 60 s) refl
 
 -- ordinary text goes on at a byte where it can't stop
 pub inert_byte : (bytes : List ℕ) (at : ℕ) → is_mark (slice_index bytes at) ≡ false → stops_plain_text (drop at bytes) ≡ false

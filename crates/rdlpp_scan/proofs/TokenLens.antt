@@ -1,11 +1,12 @@
 -- Searches in a text, the classes of bytes, and the length and the last byte of a first token.
-use Rattle.std.proofs.Common.{◌≡◌, ℕ, zero, suc, ◌<◌, Bool, true, false, ◌&&◌, not, nat_eq, bit_and, get_or, List, refl, arith, inl, inr, cond, ◌∷◌, Option, Some, None, length, sym, ap, ◌∙◌, ◌+◌, ◌≤◌, eqb, one-add, take, drop, ⊎_elim, ◌||◌, subst, ◌≢◌, min, ltb, ◌-◌, option_map, unwrap_or, eq-eqb, eqb-true, leb-true, ltb-false, ltb-true, ne_eqb, drop-drop, get_or-drop, length-drop, []}
+use Rattle.std.proofs.Common.{◌≡◌, ℕ, zero, suc, ◌<◌, Bool, true, false, ◌&&◌, not, nat_eq, bit_and, get_or, List, refl, arith, inl, inr, cond, ◌∷◌, Option, Some, None, length, sym, ap, ◌∙◌, ◌+◌, ◌≤◌, eqb, one-add, take, drop, ⊎_elim, ◌||◌, subst, ◌≢◌, min, ltb, ◌-◌, option_map, unwrap_or, eq-eqb, eqb-true, leb-true, ltb-false, ltb-true, ne_eqb, drop-drop, get_or-drop, length-drop, take_all, []}
 use Rattle.std.specs.Bool.{beq}
 use Rattle.std.specs.List.{AllByRecursion, list_all, prefix_len}
 use Rattle.std.proofs.Math.Bool.{or-true}
 use Rattle.std.proofs.lemmas.Bool.{and_from, and_parts, cases_eq, cases_lt, cond_both, false_from_ne_true, false≢true, or_cases, or_from, or_parts}
 use Rattle.std.proofs.lemmas.List.{drop_all, drop_more, get_or_past}
-use Rattle.std.proofs.lemmas.List.Sums.{prefix_len-le-length, prefix_len_is, prefix_len_passes}
+use Rattle.std.proofs.lemmas.List.Folds.{list_all_at}
+use Rattle.std.proofs.lemmas.List.Sums.{prefix_len-le-length, prefix_len_is, prefix_len_passes, prefix_len_stops}
 use Rattle.memchr.specs.Find.{FindsNeedle, IsFirstByte, IsLastByte, OccursAt, is_byte, is_byte3}
 use Rattle.rdlpp_scan.specs.Bytes.{begins_block_comment, begins_line_comment, begins_perl, ends_block_comment, is_blank, is_closer, is_digit, is_letter, is_line_end, is_opener, is_word, takes_word}
 use Rattle.rdlpp_scan.specs.Comments.{is_line_comment}
@@ -178,6 +179,15 @@ list_all-prefix p (b ∷ bs) = elim (p b) as (λ v. p b ≡ v → list_all p (ta
   | true ↦ λ e. rw (one-add, e) (list_all-prefix p bs)
   | false ↦ λ e. refl
 ] refl
+
+-- all bytes pass a test where as many as there are pass it from the first one on
+pub prefix_whole : (p : ℕ → Bool) (bs : List ℕ) → nat_eq (prefix_len p bs) (length bs) ≡ list_all p bs
+prefix_whole p bs = elim (cases_eq (prefix_len p bs) (length bs)) [
+  | inl e ↦ eq-eqb _ _ e ∙ sym (ap (list_all p) (sym (take_all (prefix_len p bs) bs (omega (arith, e)))) ∙ list_all-prefix p bs)
+  | inr n ↦
+      let lt : prefix_len p bs < length bs = omega (arith, n, prefix_len-le-length p bs) in
+      ne_eqb _ _ n ∙ sym (list_all_at p bs (prefix_len p bs) 0 lt (prefix_len_stops p bs 0 lt))
+]
 
 -- Where ordinary text stops, by the bytes that matter to it.
 

@@ -1,18 +1,13 @@
 // The classes of bytes, and runs of them.
-ghost use Rattle.std.specs.Prelude.{◌≡◌, ◌<◌, ◌≤◌, length, slice_index, IsTrue};
+ghost use Rattle.std.specs.Prelude.{◌≡◌, ◌<◌, ◌≤◌, length, slice_index};
 ghost use Rattle.std.specs.List.{prefix_len};
 ghost use Rattle.rdlpp_scan.specs.Bytes.{
-  begins_block_comment,
-  begins_line_comment,
   begins_perl,
   is_blank,
-  is_closer,
   is_digit,
   is_letter,
-  is_opener,
   is_inert,
   is_word,
-  takes_word,
 };
 
 // A class of bytes: those of names and numbers.
@@ -84,7 +79,7 @@ fn is_inert(b: u8) -> bool
     CLASSES[b as usize] & QUIET != 0
 }
 
-/// Whether a byte is a decimal digit.
+/// Whether a byte is a decimal digit (IEEE 1364-2001, numbers).
 #[tactic(auto, unfolding(crate::specs::Bytes::is_digit))]
 pub fn is_digit(b: u8) -> bool
     ensures { result ≡ is_digit b }
@@ -98,27 +93,6 @@ pub(crate) fn is_word(b: u8) -> bool
     CLASSES[b as usize] & WORD != 0
 }
 
-#[tactic(auto, unfolding(crate::specs::Bytes::is_opener))]
-pub(crate) fn is_opener(b: u8) -> bool
-    ensures { result ≡ is_opener b }
-{
-    b == b'(' || b == b'[' || b == b'{'
-}
-
-#[tactic(auto, unfolding(crate::specs::Bytes::is_closer))]
-pub(crate) fn is_closer(b: u8) -> bool
-    ensures { result ≡ is_closer b }
-{
-    b == b')' || b == b']' || b == b'}'
-}
-
-#[tactic(auto, unfolding(crate::specs::Bytes::takes_word))]
-pub(crate) fn takes_word(b: u8) -> bool
-    ensures { result ≡ takes_word b }
-{
-    b == b'\'' || b == b'\\'
-}
-
 #[tactic(auto, unfolding(crate::specs::Bytes::begins_perl))]
 pub(crate) fn begins_perl(bytes: &[u8]) -> bool
     ensures { result ≡ begins_perl bytes.now }
@@ -126,22 +100,8 @@ pub(crate) fn begins_perl(bytes: &[u8]) -> bool
     byte_at(bytes, 0) == b'<' && byte_at(bytes, 1) == b'%'
 }
 
-#[tactic(auto, unfolding(crate::specs::Bytes::begins_line_comment))]
-pub(crate) fn begins_line_comment(bytes: &[u8]) -> bool
-    ensures { result ≡ begins_line_comment bytes.now }
-{
-    byte_at(bytes, 0) == b'/' && byte_at(bytes, 1) == b'/'
-}
-
-#[tactic(auto, unfolding(crate::specs::Bytes::begins_block_comment))]
-pub(crate) fn begins_block_comment(bytes: &[u8]) -> bool
-    ensures value { result ≡ begins_block_comment bytes.now }
-    ensures room { IsTrue result → 2 ≤ length bytes.now }
-{
-    byte_at(bytes, 0) == b'/' && byte_at(bytes, 1) == b'*'
-}
-
-/// How many blanks a text begins with.
+/// How many blanks a text begins with: white space without line ends (IEEE 1364-2001, white space; CR and VT by
+/// this project's profile).
 pub fn blanks(bytes: &[u8]) -> usize
     ensures value { result ≡ prefix_len is_blank bytes.now }
     ensures inside { result ≤ length bytes.now }

@@ -112,17 +112,11 @@ fn byte_back(bytes: &[u8], back: usize) -> u8
     }
 }
 
-// Whether the LF behind these two bytes is a continuation: `\`, or `\` and CR.
-#[tactic(auto, unfolding(crate::specs::SourceTokens::is_continued))]
-fn is_continuation(before: u8, last: u8) -> bool
-    ensures { result ≡ is_continued before last }
-{
-    last == b'\\' || before == b'\\' && last == b'\r'
-}
-
-// Whether a line without its LF goes on behind that LF.
+// Whether a line without its LF goes on behind that LF: it ends with `\`, or with `\` and CR.
 fn is_continued(line: &[u8]) -> bool
     ensures { result ≡ ends_continued 0 0 line.now }
 {
-    is_continuation(byte_back(line, 2), byte_back(line, 1))
+    let before = byte_back(line, 2);
+    let last = byte_back(line, 1);
+    last == b'\\' || before == b'\\' && last == b'\r'
 }

@@ -1,11 +1,9 @@
 // Names, and those of them that are reserved for directives.
 ghost use Rattle.std.specs.Prelude.{◌≡◌, is_some};
-ghost use Rattle.std.specs.List.{list_all};
-ghost use Rattle.rdlpp_scan.specs.Bytes.{is_word};
 ghost use Rattle.rdlpp_scan.specs.Names.{is_name};
 ghost use Rattle.rdlpp_scan.specs.Reserved.{directive_named, is_reserved};
 
-use crate::bytes::{byte_at, is_letter, is_word};
+use crate::bytes::{byte_at, is_letter, word_bytes};
 use crate::token::Directive;
 
 /// Whether `bytes` is one name and nothing else: a letter or `_`, then letters, `_` and digits
@@ -16,7 +14,7 @@ use crate::token::Directive;
 pub fn is_name(bytes: &[u8]) -> bool
     ensures { result ≡ is_name bytes.now }
 {
-    is_letter(byte_at(bytes, 0)) && all_word_bytes(bytes)
+    is_letter(byte_at(bytes, 0)) && word_bytes(bytes) == bytes.len()
 }
 
 /// The directive of this name; `None` where the name isn't reserved (IEEE 1364-2001, clause on
@@ -49,10 +47,4 @@ pub fn reserved(name: &[u8]) -> Option<Directive>
     } else {
         None
     }
-}
-
-fn all_word_bytes(bytes: &[u8]) -> bool
-    ensures { result ≡ list_all is_word bytes.now }
-{
-    bytes.iter().all(|b| is_word(*b))
 }

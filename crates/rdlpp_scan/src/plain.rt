@@ -7,7 +7,7 @@ ghost use Rattle.rdlpp_scan.specs.PlainTexts.{is_mark, IsPassed};
 ghost use Rattle.rdlpp_scan.specs.SourceTokens.{line_ends};
 ghost use Rattle.rdlpp_scan.specs.Tokens.{plain_len, stops_plain_text};
 
-use crate::bytes::{begins_block_comment, begins_line_comment, begins_perl, byte_at};
+use crate::bytes::{begins_perl, byte_at};
 use std::simd::prelude::*;
 
 /// How much ordinary text bytes begin with.
@@ -149,7 +149,8 @@ fn before_near_mark(bytes: &[u8], from: PlainText) -> PlainText
 {
     let mut run = from;
     while run.len < bytes.len() {
-        if is_mark(bytes[run.len]) {
+        let b = bytes[run.len];
+        if b == b'`' || b == b'"' || b == b'/' || b == b'<' {
             return run;
         }
         run = after_byte(bytes, run);
@@ -179,24 +180,13 @@ fn line_end_at(bytes: &[u8], at: usize) -> usize
     if bytes[at] == b'\n' { 1 } else { 0 }
 }
 
-// Whether ordinary text may stop at a byte.
-#[tactic(auto, unfolding(crate::specs::PlainTexts::is_mark))]
-fn is_mark(b: u8) -> bool
-    ensures { result ≡ is_mark b }
-{
-    b == b'`' || b == b'"' || b == b'/' || b == b'<'
-}
-
 /// Whether ordinary text stops in front of `bytes`: at a backquote, `"`, `//`, `/*` or `<%` (this
 /// project's profile).
-#[tactic(auto, unfolding(crate::specs::Tokens::stops_plain_text))]
+#[tactic(auto, unfolding(crate::specs::Tokens::stops_plain_text, crate::specs::Bytes::begins_line_comment, crate::specs::Bytes::begins_block_comment))]
 pub fn stops_plain_text(bytes: &[u8]) -> bool
     ensures { result ≡ stops_plain_text bytes.now }
 {
     let b = byte_at(bytes, 0);
-    b == b'`'
-        || b == b'"'
-        || begins_line_comment(bytes)
-        || begins_block_comment(bytes)
-        || begins_perl(bytes)
+    let next = byte_at(bytes, 1);
+    b == b'`' || b == b'"' || b == b'/' && (next == b'/' || next == b'*') || begins_perl(bytes)
 }

@@ -1,13 +1,12 @@
 // The first token of a text, by the rows of the token table.
-ghost use Rattle.std.specs.Prelude.{◌≡◌, ◌+◌, ◌^◌, ◌≤◌, ◌<◌, ◌||◌, ◌==◌, length, slice_index, drop, false};
+ghost use Rattle.std.specs.Prelude.{◌≡◌, ◌+◌, ◌^◌, ◌≤◌, ◌<◌, ◌||◌, ◌==◌, length, slice_index, false};
 ghost use Rattle.rdlpp_scan.specs.Bytes.{begins_perl, ends_block_comment};
 ghost use Rattle.rdlpp_scan.specs.Pieces.{CutTokens};
 ghost use Rattle.rdlpp_scan.specs.TokenParts.{kind_of, len_of, mark_kind, mode_after, opened, plain_kind, stop_of};
 ghost use Rattle.rdlpp_scan.specs.Tokens.{first_place, string_stop, token_of};
 
 use crate::bytes::{
-    begins_perl, blanks, byte_at, is_blank, is_closer, is_digit, is_letter, is_opener, is_word,
-    takes_word, word_bytes,
+    begins_perl, blanks, byte_at, is_blank, is_digit, is_letter, is_word, word_bytes,
 };
 use crate::lines::before_line_end;
 use crate::token::{Kind, Mode, Token};
@@ -81,15 +80,15 @@ fn comment_stop(bytes: &[u8]) -> usize
 }
 
 // The kind of a token of plain text that begins with a byte that stands in no run, and the byte behind it.
-#[tactic(auto, unfolding(crate::specs::TokenParts::mark_kind, crate::specs::Bytes::is_line_end))]
+#[tactic(auto, unfolding(crate::specs::TokenParts::mark_kind, crate::specs::Bytes::is_line_end, crate::specs::Bytes::is_opener, crate::specs::Bytes::is_closer, crate::specs::Bytes::takes_word))]
 fn mark_kind(b: u8, c: u8) -> Kind
     ensures { result ≡ mark_kind b c }
 {
     if b == b',' {
         Kind::Comma
-    } else if is_opener(b) {
+    } else if b == b'(' || b == b'[' || b == b'{' {
         Kind::Opener
-    } else if is_closer(b) {
+    } else if b == b')' || b == b']' || b == b'}' {
         Kind::Closer
     } else if b == b'\n' {
         Kind::LineEnd
@@ -105,7 +104,7 @@ fn mark_kind(b: u8, c: u8) -> Kind
         Kind::BlockComment
     } else if b == b'<' && c == b'%' {
         Kind::Perl
-    } else if takes_word(b) && is_word(c) {
+    } else if (b == b'\'' || b == b'\\') && is_word(c) {
         Kind::Word
     } else {
         Kind::Other
@@ -156,22 +155,6 @@ fn opened(mode: Mode, len: usize) -> usize
     }
 }
 
-// Where a string stops whose part begins at a place.
-fn string_stop_from(from: usize, bytes: &[u8]) -> usize
-    requires { from ≤ length bytes.now }
-    ensures { result ≡ from + string_stop false (drop from bytes.now) }
-{
-    from + string_stop(&bytes[from..])
-}
-
-// Where a block comment stops whose text begins at a place.
-fn comment_stop_from(from: usize, bytes: &[u8]) -> usize
-    requires { from ≤ length bytes.now }
-    ensures { result ≡ from + first_place ends_block_comment (drop from bytes.now) }
-{
-    from + comment_stop(&bytes[from..])
-}
-
 // Where the first token stops, without the bytes that close it.
 #[tactic(auto, unfolding(crate::specs::TokenParts::stop_of))]
 fn stop_of(mode: Mode, kind: Kind, bytes: &[u8]) -> usize
@@ -184,9 +167,15 @@ fn stop_of(mode: Mode, kind: Kind, bytes: &[u8]) -> usize
         Kind::Blank => blanks(bytes),
         Kind::Word if is_digit(byte_at(bytes, 0)) => word_bytes(bytes),
         Kind::Word | Kind::Back => 1 + word_bytes(&bytes[1..]),
-        Kind::Str => string_stop_from(opened(mode, 1), bytes),
+        Kind::Str => {
+            let from = opened(mode, 1);
+            from + string_stop(&bytes[from..])
+        }
         Kind::LineComment => before_line_end(bytes),
-        Kind::BlockComment => comment_stop_from(opened(mode, 2), bytes),
+        Kind::BlockComment => {
+            let from = opened(mode, 2);
+            from + comment_stop(&bytes[from..])
+        }
         Kind::Perl => 2,
         _ => 1,
     }
