@@ -32,8 +32,6 @@ ghost use Rattle.rdlpp_lines.specs.Texts.{
   begun,
   cleared,
   is_space,
-  ends_default,
-  level_after,
   level_by,
   start_level,
   stops_token,
@@ -80,29 +78,17 @@ fn stops_token(level: Option<usize>, kind: Kind, b: u8) -> bool
     }
 }
 
-// The level behind a token.
-#[tactic(auto, unfolding(crate::specs::Texts::level_after))]
-fn level_after(kind: Kind, level: usize) -> usize
-    requires { level < 18446744073709551615 }
-    ensures value { result ≡ level_after kind level }
-    ensures small { result ≤ level + 1 }
-{
-    match kind {
-        Kind::Opener => level + 1,
-        Kind::Closer => level.saturating_sub(1),
-        _ => level,
-    }
-}
-
 // The level behind a token, where there is one.
+#[tactic(auto, unfolding(crate::specs::Texts::level_after))]
 fn level_by(level: Option<usize>, kind: Kind) -> Option<usize>
     requires { unwrap_or level 0 < 18446744073709551615 }
     ensures value { result ≡ level_by level kind }
     ensures small { unwrap_or result 0 ≤ unwrap_or level 0 + 1 }
 {
-    match level {
-        Some(level) => Some(level_after(kind, level)),
-        None => None,
+    match (level, kind) {
+        (Some(level), Kind::Opener) => Some(level + 1),
+        (Some(level), Kind::Closer) => Some(level.saturating_sub(1)),
+        _ => level,
     }
 }
 
@@ -182,13 +168,6 @@ impl<'a> KeptBytes<'a> {
         self.mode = token.next_mode;
         self.level = level_by(self.level, token.kind);
         Ok(true)
-    }
-
-    // The text that wasn't read yet.
-    fn rest(&self) -> &'a [u8]
-        ensures { result.now ≡ self.now.rest.now }
-    {
-        self.rest
     }
 
     // The next byte that is kept; `None` at the end.
@@ -303,7 +282,7 @@ fn kept_len(text: &[u8], is_logical: bool, is_default: bool) -> Result<Measured<
         Ok(Some(_)) => {}
         Ok(None) => return Ok(Measured {
             len: 0,
-            following: bytes.rest(),
+            following: bytes.rest,
         }),
         Err(fault) => return Err(fault),
     }
@@ -319,7 +298,7 @@ fn kept_len(text: &[u8], is_logical: bool, is_default: bool) -> Result<Measured<
             }
             Ok(None) => return Ok(Measured {
                 len: end,
-                following: bytes.rest(),
+                following: bytes.rest,
             }),
             Err(fault) => return Err(fault),
         }
@@ -411,7 +390,7 @@ fn after_by_tokens(bytes: &[u8]) -> &[u8]
     loop {
         match reader.advance() {
             Ok(true) => {}
-            Ok(false) => return reader.rest(),
+            Ok(false) => return reader.rest,
             Err(_) => return &[],
         }
     }

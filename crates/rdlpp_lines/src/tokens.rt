@@ -14,6 +14,7 @@ use rdlpp_scan::{Kind, Mode, Token, first_token};
 /// keeps the `\` or the `\` and CR that stand before its line's end (`is_read`).
 ///
 /// Costs time linear in the token's length.
+#[tactic(auto, unfolding(crate::specs::LineTokens::line_token))]
 pub fn line_token(mode: Mode, text: &[u8], is_logical: bool) -> Token
     requires { 0 < length text.now }
     ensures value { result ≡ line_token is_logical mode text.now }
@@ -21,7 +22,10 @@ pub fn line_token(mode: Mode, text: &[u8], is_logical: bool) -> Token
     ensures not_empty { 0 < result.len }
     ensures inside { result.len ≤ length text.now }
 {
-    token_at(mode, text, is_logical)
+    match (is_logical, mode) {
+        (true, Mode::Plain) => plain_line_token(text),
+        _ => first_token(mode, text),
+    }
 }
 
 // The first token of plain text of a logical line.
@@ -41,19 +45,5 @@ fn plain_line_token(text: &[u8]) -> Token
             len: len + 1,
             next_mode: Mode::Plain,
         }
-    }
-}
-
-// The first token of a text, of a logical line or as it stands.
-#[tactic(auto, unfolding(crate::specs::LineTokens::line_token))]
-fn token_at(mode: Mode, text: &[u8], is_logical: bool) -> Token
-    requires { 0 < length text.now }
-    ensures value { result ≡ line_token is_logical mode text.now }
-    ensures not_empty { 0 < result.len }
-    ensures inside { result.len ≤ length text.now }
-{
-    match (is_logical, mode) {
-        (true, Mode::Plain) => plain_line_token(text),
-        _ => first_token(mode, text),
     }
 }

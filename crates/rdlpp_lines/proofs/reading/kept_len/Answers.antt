@@ -1,4 +1,4 @@
-use Rattle.std.proofs.Common.{◌∙◌, sym, ap, arith, true, false}
+use Rattle.std.proofs.Common.{◌∙◌, refl, sym, ap, arith, true, false}
 use Rattle.rdlpp_lines.specs.Texts.{begun, text_after, trims}
 use Rattle.rdlpp_lines.proofs.Measures.{none_len, fault_len, start_len, step_len, last_len, broken_len, found_next, none_next, same_next, fault_next, blank_found, shorter_found, after_onto, after_begun, after_none, after_the_first, same_joined}
 use Rattle.rdlpp_lines.proofs.reading.kept_len.Goals as goal
@@ -10,7 +10,7 @@ pub returns-in-Ok-None-clause-following : goal.returns-in-Ok-None-clause-followi
 returns-in-Ok-None-clause-following c =
     after_the_first (trims c.args.is_default) _ _ _ c.new-bytes.ensures.left (same_next _ _ _ c.in-Ok-None.ensures.next c.in-Ok-None.field-0-is)
     ∙ (after_none _ _ _ c.in-Ok-None.ensures.end c.in-Ok-None.field-0-is
-    ∙ same_joined _ _ _ _ (c.in-Ok-None.ensures.same ∙ c.new-bytes.ensures.is_logical) c.rest.ensures)
+    ∙ same_joined _ _ _ _ (c.in-Ok-None.ensures.same ∙ c.new-bytes.ensures.is_logical) refl)
 
 pub returns-in-Err-clause-len : goal.returns-in-Err-clause-len
 returns-in-Err-clause-len c = sym (fault_len (trims c.args.is_default) _ _ (sym (ap (begun (trims c.args.is_default)) c.new-bytes.ensures.left) ∙ fault_next _ _ _ c.in-Err.ensures.next))
@@ -60,7 +60,7 @@ returns-in-Ok-None-next-clause-following c =
     sym c.loop-b.invariant.following
     ∙ (sym (ap text_after (same_next _ _ _ c.in-Ok-None-next.ensures.next c.in-Ok-None-next.field-0-is))
     ∙ (after_none _ _ _ c.in-Ok-None-next.ensures.end c.in-Ok-None-next.field-0-is
-    ∙ same_joined _ _ _ _ (c.in-Ok-None-next.ensures.same ∙ c.loop-b.invariant.logical) c.rest-in-Ok-None-next.ensures))
+    ∙ same_joined _ _ _ _ (c.in-Ok-None-next.ensures.same ∙ c.loop-b.invariant.logical) refl))
 
 pub returns-in-Err-next-clause-len : goal.returns-in-Err-next-clause-len
 returns-in-Err-next-clause-len c = sym (broken_len (trims c.args.is_default) c.loop-b.count c.loop-b.end _ _ (fault_next _ _ _ c.in-Err-next.ensures.next) ∙ c.loop-b.invariant.same)
