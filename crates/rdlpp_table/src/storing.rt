@@ -4,7 +4,6 @@ ghost use Rattle.std.specs.Prelude.{
   bytes_eq,
   length,
   map,
-  slice_range,
   unwrap_or,
   vec_capacity,
   vec_len,
@@ -25,16 +24,16 @@ ghost use Rattle.std.specs.Prelude.{
 ghost use Rattle.std.specs.List.{flat_map, IsDistinct};
 ghost use Rattle.rdlpp_table.specs.Index.{bucket_of, names_of, IsFound, IsIndexed};
 ghost use Rattle.rdlpp_table.specs.FormalOffsets.{table_offsets};
-ghost use Rattle.rdlpp_table.specs.Store.{live, macros_in, AreStoredFormals, IsStored};
+ghost use Rattle.rdlpp_table.specs.Store.{live, macros_in, IsStored};
 ghost use Rattle.rdlpp_table.specs.Table.{formal_bytes, table_size, without};
-ghost use Rattle.rdlpp_table.specs.NewMacro.{list_formals, new_macro, points_told, IsList, IsNew};
+ghost use Rattle.rdlpp_table.specs.NewMacro.{list_formals, new_macro, IsList, IsNew};
 
 use crate::entry::Entry;
 use crate::formals::append_list;
 use crate::given_up::{GivenUp, live};
 use crate::index::{Index, seek_named};
 use crate::offsets::StoredFormals;
-use crate::point_cache::{PointCache, cached_points};
+use crate::point_cache::cached_points;
 use crate::removal::{remove_named, settle, size_of_entry};
 use rdlpp_lines::{append_part, append_trimmed};
 
@@ -61,27 +60,6 @@ fn append_formals(bytes: &mut Vec<u8>, new: &NewMacro)
     if new.arity.unwrap_or(0) > 0 {
         append_list(bytes, new.list);
     }
-}
-
-// The first expansion points of the body behind a place, by the formals between two places and their offsets.
-fn points_at(
-    bytes: &[u8],
-    list: usize,
-    body: usize,
-    count: usize,
-    formal_offsets: &[u16],
-) -> PointCache
-    requires order { (list ≤ body) × (body ≤ length bytes.now) }
-    requires short { length bytes.now < 2 ^ 64 }
-    requires listed { AreStoredFormals count (slice_range bytes.now list body) formal_offsets.now }
-    ensures { result ≡ points_told bytes.now list body count }
-{
-    let formals = StoredFormals {
-        list: &bytes[list..body],
-        count,
-        formal_offsets,
-    };
-    cached_points(&formals, &bytes[body..])
 }
 
 // How many formals a macro has, in a small number.
@@ -129,8 +107,13 @@ fn put(
     let count = new.arity.unwrap_or(0);
     index.push_offsets(&bytes[list..], count);
     append_trimmed(bytes, new.text, new.is_logical, false, new.body_len);
-    let formal_offsets = &index.formal_offsets()[first..];
-    let points = points_at(bytes.as_slice(), list, body, count, formal_offsets);
+    let stored = bytes.as_slice();
+    let formals = StoredFormals {
+        list: &stored[list..body],
+        count,
+        formal_offsets: &index.formal_offsets()[first..],
+    };
+    let points = cached_points(&formals, &stored[body..]);
     entries.push_reserved(Entry {
         start: start as u32,
         list_len: new.list_len as u32,
