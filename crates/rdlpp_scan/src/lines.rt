@@ -2,7 +2,7 @@
 ghost use Rattle.std.specs.Prelude.{◌≡◌, ◌+◌, ◌-◌, ◌<◌, ◌≤◌, ◌∷◌, not, length, slice_index};
 ghost use Rattle.std.specs.List.{prefix_len};
 ghost use Rattle.rdlpp_scan.specs.Bytes.{is_line_end};
-ghost use Rattle.rdlpp_scan.specs.SourceTokens.{is_continued, line_ends, line_len, logical_len};
+ghost use Rattle.rdlpp_scan.specs.SourceTokens.{line_ends, line_len, logical_len};
 ghost use Rattle.rdlpp_scan.specs.Lines.{ended_line_len, ends_continued, whole_lines_len};
 
 use memchr::{memchr, memrchr};

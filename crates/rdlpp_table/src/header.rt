@@ -1,9 +1,8 @@
 // The header of a definition: white space, a name, and whether a formal list follows.
-ghost use Rattle.std.specs.Prelude.{length, true, IfSome, MatchOption, None, Some, ◌≡◌, ◌≤◌};
-ghost use Rattle.rdlpp_scan.specs.Bytes.{is_letter};
+ghost use Rattle.std.specs.Prelude.{length, true, IfSome, MatchOption, None, ◌≡◌, ◌≤◌};
 ghost use Rattle.rdlpp_scan.specs.SourceTokens.{logical_len};
 ghost use Rattle.rdlpp_lines.specs.Continuations.{joined};
-ghost use Rattle.rdlpp_table.specs.Define.{after_space, formal_list, formals_of_list, is_space, leading_name, unended, Listed};
+ghost use Rattle.rdlpp_table.specs.Define.{after_space, formal_list, formals_of_list, leading_name, unended, Listed};
 
 use rdlpp_lines::{is_space, split_first};
 use rdlpp_scan::{is_letter, logical_line, word_bytes};

@@ -1,5 +1,5 @@
 // A name that is looked up, and the count of its comparisons.
-ghost use Rattle.std.specs.Prelude.{◌≡◌, ◌+◌, ◌<◌, ◌≤◌, ℕ, ◌∷◌, length, take};
+ghost use Rattle.std.specs.Prelude.{◌≡◌, ◌+◌, ◌≤◌, ℕ, ◌∷◌, length, take};
 ghost use Rattle.std.specs.Slice.Scan.{big_endian};
 ghost use Rattle.rdlpp_table.specs.Index.{name_order};
 

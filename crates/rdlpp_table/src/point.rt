@@ -1,7 +1,6 @@
 // Where the text of a body isn't copied as it stands.
 ghost use Rattle.std.specs.Prelude.{length, slice_index_or, true, ◌+◌, ◌<◌, ◌≡◌, ◌≤◌, ◌^◌};
 ghost use Rattle.rdlpp_scan.specs.Tokens.{token_of};
-ghost use Rattle.rdlpp_scan.specs.declared.token.Mode.TheVariants.{Plain};
 ghost use Rattle.rdlpp_table.specs.Shapes.{AreShapes, shape};
 ghost use Rattle.rdlpp_table.specs.PointCache.{point_end};
 ghost use Rattle.rdlpp_table.specs.ExpansionPoints.{is_none, point_at, point_of};

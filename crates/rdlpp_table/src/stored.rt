@@ -1,5 +1,5 @@
 // Formals as they lie in a table's bytes: a name, `=` and a default text where there is one, and a comma.
-ghost use Rattle.std.specs.Prelude.{drop, length, ◌%◌, ◌*◌, ◌+◌, ◌<◌, ◌≡◌, ◌≤◌};
+ghost use Rattle.std.specs.Prelude.{drop, length, ◌<◌, ◌≡◌, ◌≤◌};
 ghost use Rattle.std.specs.List.{prefix_len};
 ghost use Rattle.rdlpp_table.specs.Shapes.{shape};
 ghost use Rattle.rdlpp_table.specs.Store.{formal_read, formals_read, is_name_byte};

@@ -7,8 +7,6 @@ ghost use Rattle.std.specs.Prelude.{
   unwrap_or,
   vec_capacity,
   vec_len,
-  None,
-  Some,
   ◌*◌,
   ◌+◌,
   ◌++◌,
@@ -18,7 +16,6 @@ ghost use Rattle.std.specs.Prelude.{
   ◌≡◌,
   ◌≤◌,
   ◌^◌,
-  ◌||◌,
   ◌∷◌,
 };
 ghost use Rattle.std.specs.List.{flat_map, IsDistinct};
