@@ -111,6 +111,7 @@ impl Limits {
         if !is_within(1, 4_096, self.conditions) {
             return Some(LimitFault::Conditions);
         }
+        // No number is out of this range, which stands here as the others do.
         if self.output_bytes > u64::MAX {
             return Some(LimitFault::OutputBytes);
         }
