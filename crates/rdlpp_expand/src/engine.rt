@@ -23,7 +23,7 @@ ghost use Rattle.rdlpp_state.specs.Held.{HoldsDefinitions, IsBounded, bound_of, 
 ghost use Rattle.rdlpp_state.specs.Moves.{Ends, IsReady, IsDrained, LooksAtName, ReadsDefine};
 ghost use Rattle.rdlpp_state.specs.OpenConditionals.{inner_below};
 ghost use Rattle.rdlpp_state.specs.Pending.{nothing_pending};
-ghost use Rattle.rdlpp_state.specs.Pieces.{IsPlaced, Lends, answer_of, bytes_at, held_texts, lent_answer, piece_bytes, step_answer};
+ghost use Rattle.rdlpp_state.specs.Pieces.{IsPlaced, Lends, answer_of, held_texts, lent_answer, step_answer};
 ghost use Rattle.rdlpp_state.specs.Stored.{LetsGo};
 ghost use Rattle.rdlpp_state.specs.Remaining.{output_fault, state_of};
 ghost use Rattle.rdlpp_expand.specs.Run.{write_fault};
@@ -695,11 +695,12 @@ impl<S: Sources> Engine<S> {
     }
 
     // Whether the fault that is kept is that of a write that failed.
+    #[tactic(auto, unfolding(rdlpp_state::specs::Steps::is_write_failed))]
     pub(crate) fn keeps_write_failure(&self) -> bool
         ensures { (f : Report) → self.now.kept ≡ Some f → result ≡ is_write_failed f.kind }
     {
         match &self.kept {
-            Some(fault) => is_write_failure(fault.kind),
+            Some(fault) => fault.kind == FaultKind::WriteFailed,
             None => false,
         }
     }
@@ -719,26 +720,20 @@ impl<S: Sources> Engine<S> {
         requires { IsPlaced self.now place }
         ensures { answer_of result ≡ lent_answer self.now place }
     {
-        match (place, &self.kept) {
-            (PieceLocation::Fault, Some(fault)) => Err(fault),
-            _ => Ok(self.lend(place)),
-        }
-    }
-
-    // Lends the piece at a place.
-    fn lend(&self, place: PieceLocation) -> Piece<'_>
-        requires { IsPlaced self.now place }
-        ensures { piece_bytes result ≡ bytes_at self.now place }
-    {
         match place {
-            PieceLocation::Source(start, end) => Piece::Bytes(
-                self.files.file().buffer.part(start, end),
-            ),
-            PieceLocation::Text(place) => Piece::Bytes(self.text(place)),
-            PieceLocation::Pending(piece) => Piece::Bytes(
-                self.pending.bytes(piece, self.files.file().name.as_str()),
-            ),
-            PieceLocation::End | PieceLocation::Fault => Piece::Done,
+            PieceLocation::Source(start, end) => {
+                Ok(Piece::Bytes(self.files.file().buffer.part(start, end)))
+            }
+            PieceLocation::Text(place) => Ok(Piece::Bytes(self.text(place))),
+            PieceLocation::Pending(piece) => {
+                let name = self.files.file().name.as_str();
+                Ok(Piece::Bytes(self.pending.bytes(piece, name)))
+            }
+            PieceLocation::End => Ok(Piece::Done),
+            PieceLocation::Fault => match &self.kept {
+                Some(fault) => Err(fault),
+                None => Ok(Piece::Done),
+            },
         }
     }
 
@@ -753,12 +748,4 @@ impl<S: Sources> Engine<S> {
         self.files.facts();
         self.expansion.facts();
     }
-}
-
-// Whether a kind is that of a write that failed.
-#[tactic(auto, unfolding(rdlpp_state::specs::Steps::is_write_failed))]
-fn is_write_failure(kind: FaultKind) -> bool
-    ensures { result ≡ is_write_failed kind }
-{
-    kind == FaultKind::WriteFailed
 }

@@ -60,7 +60,7 @@ impl<S: Sources> Engine<S> {
     pub(crate) fn keeps_failed_start(&self) -> bool
         ensures { result ≡ is_failed_start self.now }
     {
-        self.keeps_failed_call() && has_closed(self.phase)
+        self.keeps_failed_call() && self.phase == Phase::Closed
     }
 
     // Whether the fault that is kept is that of a device that failed, or of memory that was refused.
@@ -74,19 +74,12 @@ impl<S: Sources> Engine<S> {
     }
 
     // Whether the main text is open, and what is held of the innermost source begins with the word of an `include`.
+    #[tactic(auto, unfolding(rdlpp_state::specs::Searches::begins_include))]
     fn is_at_include(&self) -> bool
         ensures { result ≡ (may_follow self.now.phase && begins_include (held_of (inner_buffer self.now.files.include_stack))) }
     {
-        has_open(self.phase) && begins_include(self.front())
+        has_open(self.phase) && self.front().starts_with(INCLUDE)
     }
-}
-
-// Whether the main text has ended, or couldn't be opened.
-#[tactic(auto, unfolding(rdlpp_state::specs::Searches::is_over))]
-fn has_closed(phase: Phase) -> bool
-    ensures { result ≡ is_over phase }
-{
-    phase == Phase::Closed
 }
 
 // Whether the main text is open, and more may be lent.
@@ -95,14 +88,6 @@ fn has_open(phase: Phase) -> bool
     ensures { result ≡ may_follow phase }
 {
     phase == Phase::Open
-}
-
-// Whether bytes begin with the word of an `include`.
-#[tactic(auto, unfolding(rdlpp_state::specs::Searches::begins_include))]
-fn begins_include(bytes: &[u8]) -> bool
-    ensures { result ≡ begins_include bytes.now }
-{
-    bytes.starts_with(INCLUDE)
 }
 
 // Whether a kind is that of a source that couldn't be read or searched for: a device failed, or memory was refused.

@@ -3,7 +3,7 @@ ghost use Rattle.std.specs.Prelude.{◌≡◌, ◌<◌, ◌≤◌, None, IfNone,
 ghost use Rattle.rdlpp_meaning.specs.Meaning.{unquoted};
 ghost use Rattle.rdlpp_read.specs.Buffer.{held_of};
 ghost use Rattle.rdlpp_read.specs.Files.{inner_buffer};
-ghost use Rattle.rdlpp_front.specs.SourceItems.{HasString, IsGivenString, include_name};
+ghost use Rattle.rdlpp_front.specs.SourceItems.{IsGivenString, include_name};
 ghost use Rattle.rdlpp_state.specs.Held.{IsBounded};
 ghost use Rattle.rdlpp_state.specs.Includes.{SearchMade, included_engine, is_bad_name, left_engine};
 ghost use Rattle.rdlpp_state.specs.Moves.{IsReady};
@@ -21,7 +21,7 @@ use rdlpp_source::{Found, Sources};
 use rdlpp_state::{Phase, PieceLocation};
 
 impl<S: Sources> Engine<S> {
-    // Takes an `include`, which is given a string or none, and lends nothing.
+    // Takes an `include`, which is given a string or none, and lends nothing: opens the source that is found.
     #[inline(never)]
     pub(super) fn take_include(&mut self, argument: Option<Argument>) -> Option<PieceLocation>
         requires ready { IsReady self.old }
@@ -34,26 +34,13 @@ impl<S: Sources> Engine<S> {
     {
         match argument {
             None => Some(self.record_fault(FaultKind::IncludeName)),
-            Some(Argument { start, stop }) => self.include(start, stop),
-        }
-    }
-
-    // Takes an `include` whose string stands from a place up to another: opens the source that is found.
-    fn include(&mut self, start: usize, stop: usize) -> Option<PieceLocation>
-        requires ready { IsReady self.old }
-        requires live { self.old.conditions.skipped ≡ None }
-        requires some { 0 < length (held_of (inner_buffer self.old.files.include_stack)) }
-        requires mode { (inner_buffer self.old.files.include_stack).mode ≡ Mode.Plain }
-        requires include { HasString (held_of (inner_buffer self.old.files.include_stack)) start stop }
-        ensures place { IfSome result (IsPlaced self.new) }
-        ensures uncut_step { IsBounded self.new → UncutStep S.Sources self.old self.new (step_answer self.new result) }
-    {
-        match self.seek(start, stop) {
-            Ok(found) => {
-                self.enter(found, stop);
-                None
-            }
-            Err(kind) => Some(self.record_fault(kind)),
+            Some(given) => match self.seek(given.start, given.stop) {
+                Ok(found) => {
+                    self.enter(found, given.stop);
+                    None
+                }
+                Err(kind) => Some(self.record_fault(kind)),
+            },
         }
     }
 

@@ -1,9 +1,8 @@
 // The directive `line` in the open sources.
-ghost use Rattle.std.specs.Prelude.{◌≡◌, ◌+◌, ◌<◌, ◌≤◌, ◌^◌, None, IfSome, drop, length};
+ghost use Rattle.std.specs.Prelude.{◌≡◌, ◌+◌, ◌<◌, ◌≤◌, ◌^◌, None, IfSome, length};
 ghost use Rattle.rdlpp_scan.specs.declared.token.Directive.TheVariants.{Line};
 ghost use Rattle.rdlpp_read.specs.Buffer.{held_of};
 ghost use Rattle.rdlpp_read.specs.Files.{inner_buffer, with_inner};
-ghost use Rattle.rdlpp_front.specs.Arguments.{IsLineGiven};
 ghost use Rattle.rdlpp_front.specs.SourceItems.{IsDirective};
 ghost use Rattle.rdlpp_state.specs.Held.{IsBounded};
 ghost use Rattle.rdlpp_state.specs.Lines.{Renumbers, renumbered_file};
@@ -37,7 +36,7 @@ impl<S: Sources> Engine<S> {
         if !file.blanks {
             return Some(self.record_fault(FaultKind::BadLine));
         }
-        match line_argument(file.buffer.held()) {
+        match given_line(&file.buffer.held()[LINE_BYTES..]) {
             None => Some(self.record_fault(FaultKind::BadLine)),
             Some(given) => {
                 self.renumber(given);
@@ -75,12 +74,4 @@ impl<S: Sources> Engine<S> {
     {
         self.files.renumber(from, number, name);
     }
-}
-
-// What a `line` with which held bytes begin is given behind its word.
-fn line_argument(held: &[u8]) -> Option<GivenLine>
-    requires { 5 ≤ length held.now }
-    ensures { IsLineGiven result (drop 5 held.now) }
-{
-    given_line(&held[LINE_BYTES..])
 }

@@ -1,4 +1,5 @@
 use Rattle.std.proofs.Common.{◌≡◌, ℕ, List, [], None, true, false, take, drop, sym, ap, ◌∙◌, subst, arith, refl}
+use Rattle.std.proofs.lemmas.List.{take_rest}
 use Rattle.rdlpp_scan.specs.SourceTokens.{line_len}
 use Rattle.rdlpp_meaning.specs.Meaning.{renumbered}
 use Rattle.rdlpp_meaning.specs.declared.fault.FaultKind.TheVariants as fault
@@ -21,14 +22,11 @@ returns-then-not-file-clause-uncut_step g c = λ bounded.
     (own_kind _ refl) (not_called g.S.Sources e.sources)
     (λ t. left_late_line g.S.Sources e c.requires.ready c.requires.live c.requires.some c.requires.mode c.requires.line late)
 
-pub line_argument-requires : goal.line_argument-requires
-line_argument-requires g c = grind (arith, word_held)
-
 pub returns-in-None-clause-uncut_step : goal.returns-in-None-clause-uncut_step
 returns-in-None-clause-uncut_step g c = λ bounded.
     let e = c.args.self.now in
     let held : c.held.result.now ≡ held_of (inner_buffer e.files.include_stack) = c.held.ensures.value ∙ ap held_of (c.file-file.ensures.buffer ∙ ap (λ e. inner_buffer e.files.include_stack) c.self.view_is) in
-    let bad = subst (λ (x : List ℕ). renumbered (take (line_len (drop 5 x)) (drop 5 x)) ≡ None) held c.in-None.ensures in
+    let bad = subst (λ (x : List ℕ). renumbered (take (line_len x) x) ≡ None) (take_rest c.held.result.now 5 ∙ ap (λ (x : List ℕ). drop 5 x) held) c.in-None.ensures in
     refuses g.S.Sources e e c.record_fault-in-None.new.self c.record_fault-in-None.result fault.BadLine _ [] c.requires.ready (read_nothing e) bounded c.record_fault-in-None.ensures.place
     c.record_fault-in-None.ensures.kept (own_kind _ refl) (not_called g.S.Sources e.sources)
     (λ t. left_bad_line g.S.Sources e c.requires.ready c.requires.live c.requires.some c.requires.mode c.requires.line bad)
@@ -45,7 +43,7 @@ returns-in-Some-clause-uncut_step g c = λ bounded.
     let h = held_of (inner_buffer e.files.include_stack) in
     let held : c.held.result.now ≡ h = c.held.ensures.value ∙ ap held_of (c.file-file.ensures.buffer ∙ ap (λ e. inner_buffer e.files.include_stack) c.self.view_is) in
     let first : inner_blanks e.files.include_stack ≡ true = ap inner_blanks (ap (λ e. e.files.include_stack) (sym c.self.view_is) ∙ c.file-file.ensures.inner) ∙ c.if-not-file.false in
-    let has : LineGiven (drop 5 h) c.in-Some.given = subst (λ (x : List ℕ). LineGiven (drop 5 x) c.in-Some.given) held c.in-Some.ensures in
+    let has : LineGiven (drop 5 h) c.in-Some.given = subst (λ (x : List ℕ). LineGiven x c.in-Some.given) (take_rest c.held.result.now 5 ∙ ap (λ (x : List ℕ). drop 5 x) held) c.in-Some.ensures in
     let inside = has.inside in
     let whole = word_held h c.requires.some c.requires.line in
     take_renumbered g.S.Sources e c.renumber.new.self c.in-Some.given c.requires.ready c.requires.live bounded c.requires.some c.requires.mode c.requires.line first has (omega arith) c.renumber.ensures
