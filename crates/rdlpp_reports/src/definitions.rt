@@ -1,7 +1,7 @@
 // The macros of a table as `define` lines.
 ghost use Rattle.std.specs.Prelude.{ℕ, List, ◌≡◌, ◌<◌, ◌≤◌, ◌==◌, ◌&&◌, ◌++◌, codes, drop, false, length, slice_index, take, IfSome, Some};
 ghost use Rattle.std.specs.Option.{option_map_or};
-ghost use Rattle.rdlpp_reports.specs.Definitions.{BeginsWith, continued, continued_byte, definition_line, definition_lines, ends_in_slash, ends_name, formal_part, formals_text, gap, goes_on_name, list_text, marked_text};
+ghost use Rattle.rdlpp_reports.specs.Definitions.{BeginsWith, continued, continued_byte, definition_line, definition_lines, ends_in_slash, ends_name, formal_part, formals_text, goes_on_name, list_text, marked_text};
 ghost use Rattle.std.specs.List.{flat_map};
 ghost use Rattle.rdlpp_reports.specs.Writes.{Writes};
 ghost use Rattle.rdlpp_table.specs.View.{AreSoundFormals, IsSound, formal_at, formal_named, formals_of, macro_at};
@@ -114,24 +114,14 @@ fn is_formal(table: &Table, id: MacroId, place: usize, bytes: &[u8], len: usize)
     requires len { len ≤ length bytes.now }
     ensures { result ≡ (ends_name (slice_index bytes.now len) && option_map_or (λ at. at == place) (formal_named (formals_of (macro_at table.now.macros id)) (take len bytes.now)) false) }
 {
-    ends_name(byte_at(bytes, len)) && is_place(table.formal(id, &bytes[..len]), place)
-}
-
-// Whether a formal was found at a place.
-fn is_place(found: Option<usize>, place: usize) -> bool
-    ensures { result ≡ option_map_or (λ at. at == place) found false }
-{
-    match found {
+    let end = byte_at(bytes, len);
+    if end != b'=' && end != b',' {
+        return false;
+    }
+    match table.formal(id, &bytes[..len]) {
         Some(at) => at == place,
         None => false,
     }
-}
-
-// Whether a byte stands behind a formal's name in a table.
-fn ends_name(byte: u8) -> bool
-    ensures { result ≡ ends_name byte }
-{
-    byte == b'=' || byte == b','
 }
 
 // Writes the line of a macro, with which bytes of a table begin.
@@ -164,18 +154,13 @@ fn write_list<W: Write>(table: &Table, id: MacroId, bytes: &[u8], writer: &mut W
 {
     match table.arity(id) {
         Some(arity) => write_formals(table, id, arity, bytes, writer),
-        None => write_gap(table.body(id), writer),
-    }
-}
-
-// Writes a blank in front of a body that needs one.
-fn write_gap<W: Write>(body: &[u8], writer: &mut W) -> io::Result<()>
-    ensures { Writes (W.contents writer.old) (W.contents writer.new) (gap body.now) result }
-{
-    if goes_on_name(body) {
-        write_whole(b" ", writer)
-    } else {
-        write_whole(b"", writer)
+        None => {
+            if goes_on_name(table.body(id)) {
+                write_whole(b" ", writer)
+            } else {
+                write_whole(b"", writer)
+            }
+        }
     }
 }
 

@@ -39,7 +39,13 @@ pub fn write_notes<S: Sources, W: Write>(
         }
         FaultKind::ArgumentCount => write_counts(fault, engine, writer)?,
         FaultKind::BareBackquote => write_after(engine, writer)?,
-        FaultKind::UndefinedMacro => write_left_out(fault.word.as_bytes(), writer)?,
+        FaultKind::UndefinedMacro => {
+            let name = fault.word.as_bytes();
+            if is_left_out(name) {
+                let parts = [NOTE, b"the directive '", name, b"' is left out\n"];
+                write_parts(&parts, writer)?;
+            }
+        }
         _ => write_limit(fault.kind, engine.limits(), writer)?,
     }
     write_text_of(fault.kind, engine, writer)?;
@@ -53,17 +59,6 @@ pub fn write_notes<S: Sources, W: Write>(
 pub fn write_failure<W: Write>(path: &str, error: &io::Error, writer: &mut W) -> io::Result<()> {
     write_parts(&[NOTE, path.as_bytes(), b": "], writer)?;
     writeln!(writer, "{error}")
-}
-
-// Writes that a name is a directive's which is left out, if it is.
-fn write_left_out<W: Write>(name: &[u8], writer: &mut W) -> io::Result<()> {
-    if !is_left_out(name) {
-        return Ok(());
-    }
-    write_parts(
-        &[NOTE, b"the directive '", name, b"' is left out\n"],
-        writer,
-    )
 }
 
 // Writes the value and the option of the limit that a kind of fault tells, if it does.
@@ -115,18 +110,16 @@ fn write_counts<S: Sources, W: Write>(
     if engine.innermost_text().is_some() {
         return write_whole(b"\n", writer);
     }
-    let mut has = Buffer::new();
-    let has = has.format(arguments_in(engine.arguments()));
-    write_parts(&[b", the call has ", has.as_bytes(), b"\n"], writer)
-}
-
-// How many arguments a call has, whose text between its parentheses is kept; none where that is nothing but white space.
-fn arguments_in(text: &[u8]) -> u64 {
-    let first = next_part(text, false);
-    match first.end {
+    let arguments = engine.arguments();
+    let first = next_part(arguments, false);
+    let count = match first.end {
+        // Nothing but white space between the parentheses is no argument.
         PartEnd::Last(_) if !first.has_items() => 0,
-        _ => further_parts(text).saturating_add(1),
-    }
+        _ => further_parts(arguments).saturating_add(1),
+    };
+    let mut has = Buffer::new();
+    let has = has.format(count);
+    write_parts(&[b", the call has ", has.as_bytes(), b"\n"], writer)
 }
 
 // How many parts a text between parentheses has after the first one.
@@ -204,13 +197,22 @@ fn write_search<S: Sources, W: Write>(
     folders: &[&str],
     writer: &mut W,
 ) -> io::Result<()> {
-    match asked_name(engine.front()) {
-        Some(name) => {
-            write_asked(name, writer)?;
-            write_tried(engine.inner_path(), name, folders, writer)
+    let name = asked_name(engine.front());
+    let asked = name.unwrap_or(fault.name.as_str()).as_bytes();
+    write_parts(&[NOTE, b"asked for '", asked, b"'\n"], writer)?;
+    let Some(name) = name else {
+        return Ok(());
+    };
+    for folder in SearchedFolders::of(engine.inner_path(), name, folders) {
+        match joined_path(folder, name) {
+            Some(path) => write_parts(&[NOTE, b"tried '", path.as_bytes(), b"'\n"], writer)?,
+            None => {
+                let folder = folder.as_bytes();
+                write_parts(&[NOTE, b"too long in '", folder, b"'\n"], writer)?;
+            }
         }
-        None => write_asked(fault.name.as_str(), writer),
     }
+    Ok(())
 }
 
 // The name in the `include` with which bytes begin.
@@ -224,35 +226,6 @@ fn asked_name(front: &[u8]) -> Option<&str> {
     let stop = argument.stop.saturating_sub(1).min(front.len());
     let start = argument.start.saturating_add(1).min(stop);
     str::from_utf8(&front[start..stop]).ok()
-}
-
-// Writes the name that was asked for.
-fn write_asked<W: Write>(name: &str, writer: &mut W) -> io::Result<()> {
-    write_parts(&[NOTE, b"asked for '", name.as_bytes(), b"'\n"], writer)
-}
-
-// Writes each path at which a name was tried that a source includes.
-fn write_tried<W: Write>(
-    from: &str,
-    name: &str,
-    folders: &[&str],
-    writer: &mut W,
-) -> io::Result<()> {
-    for folder in SearchedFolders::of(from, name, folders) {
-        write_candidate(folder, name, writer)?;
-    }
-    Ok(())
-}
-
-// Writes the path of a name in a folder.
-fn write_candidate<W: Write>(folder: &str, name: &str, writer: &mut W) -> io::Result<()> {
-    match joined_path(folder, name) {
-        Some(path) => write_parts(&[NOTE, b"tried '", path.as_bytes(), b"'\n"], writer),
-        None => {
-            let folder = folder.as_bytes();
-            write_parts(&[NOTE, b"too long in '", folder, b"'\n"], writer)
-        }
-    }
 }
 
 // Writes the sources that include the innermost one, from inside out.
