@@ -37,6 +37,8 @@ Exit status:
 Example:
   rdlpp -I inc -D WIDTH=8 -o chip.out.rdl chip.rdl";
 
+const ORIGINS_HELP: &str = "Write lines '// origin: NAME:LINE' that tell where text comes from";
+
 const LINE_MAP_HELP: &str =
     "Write to this file which line of which source each line of the text comes from";
 
@@ -44,6 +46,9 @@ const DEPS_HELP: &str = "Write to this file a rule for make with each source tha
 
 const DEFINITIONS_HELP: &str =
     "Write to this file the macros that are defined at the end, as define lines";
+
+const NOTES_HELP: &str =
+    "Write lines 'rdlpp: note: ..' behind a fault, with what helps to mend it";
 
 /// The options that take a limit, in the order of the fields of `Limits`, each with its help.
 pub(crate) const LIMITS: [(&str, &str); 9] = [
@@ -90,33 +95,36 @@ pub(crate) const LIMITS: [(&str, &str); 9] = [
 /// # Errors
 /// `AllocError` where there was no memory for it.
 pub(crate) fn rdlpp_command<'a>(alloc: Global) -> Result<Command<'a>, AllocError> {
+    let source = Arg::new(alloc, SOURCE)
+        .value_name("SOURCE")
+        .required(true)
+        .action(ArgAction::Set)
+        .value_parser(ValueParser::NonEmptyString)
+        .help("The source; - is standard input");
     let mut command = Command::new(alloc, "rdlpp")
         .bin_name("rdlpp")?
         .version("0.1.0")
         .about(ABOUT)
         .after_help(AFTER)
-        .arg(source(alloc))?
+        .arg(source)?
         .arg(define(alloc))?
         .arg(folder(alloc))?
         .arg(output(alloc))?
-        .arg(origins(alloc))?
+        .arg(flag(alloc, ORIGINS, ORIGINS_HELP))?
         .arg(file(alloc, LINE_MAP, LINE_MAP_HELP))?
         .arg(file(alloc, DEPS, DEPS_HELP))?
         .arg(file(alloc, DEFINITIONS, DEFINITIONS_HELP))?
-        .arg(notes(alloc))?;
+        .arg(flag(alloc, NOTES, NOTES_HELP))?;
     for (name, help) in LIMITS {
-        command = command.arg(limit(alloc, name, help))?;
+        let limit = Arg::new(alloc, name)
+            .long(name)
+            .value_name("N")
+            .action(ArgAction::Set)
+            .value_parser(clap::value_parser!(u64))
+            .help(help);
+        command = command.arg(limit)?;
     }
     Ok(command)
-}
-
-fn source<'a>(alloc: Global) -> Arg<'a> {
-    Arg::new(alloc, SOURCE)
-        .value_name("SOURCE")
-        .required(true)
-        .action(ArgAction::Set)
-        .value_parser(ValueParser::NonEmptyString)
-        .help("The source; - is standard input")
 }
 
 fn define<'a>(alloc: Global) -> Arg<'a> {
@@ -146,13 +154,6 @@ fn output<'a>(alloc: Global) -> Arg<'a> {
         .help("Write to this file, in place of standard output")
 }
 
-fn origins<'a>(alloc: Global) -> Arg<'a> {
-    Arg::new(alloc, ORIGINS)
-        .long("origins")
-        .action(ArgAction::SetTrue)
-        .help("Write lines '// origin: NAME:LINE' that tell where text comes from")
-}
-
 fn file<'a>(alloc: Global, name: &'a str, help: &'a str) -> Arg<'a> {
     Arg::new(alloc, name)
         .long(name)
@@ -162,18 +163,9 @@ fn file<'a>(alloc: Global, name: &'a str, help: &'a str) -> Arg<'a> {
         .help(help)
 }
 
-fn notes<'a>(alloc: Global) -> Arg<'a> {
-    Arg::new(alloc, NOTES)
-        .long("notes")
-        .action(ArgAction::SetTrue)
-        .help("Write lines 'rdlpp: note: ..' behind a fault, with what helps to mend it")
-}
-
-fn limit<'a>(alloc: Global, name: &'a str, help: &'a str) -> Arg<'a> {
+fn flag<'a>(alloc: Global, name: &'a str, help: &'a str) -> Arg<'a> {
     Arg::new(alloc, name)
         .long(name)
-        .value_name("N")
-        .action(ArgAction::Set)
-        .value_parser(clap::value_parser!(u64))
+        .action(ArgAction::SetTrue)
         .help(help)
 }

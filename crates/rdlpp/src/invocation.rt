@@ -93,8 +93,10 @@ pub fn parse_words<'w>(alloc: Global, words: &'w [&'w str]) -> Result<Invocation
         Ok(matches) => matches,
         Err(error) => return Err(usage_fault(alloc, &error)),
     };
-    if has_sign(&matches) {
-        return Err(refusal(alloc, &mut command, "a limit is a number without a sign"));
+    for (name, _) in LIMITS {
+        if matches.get_str(name).unwrap_or("").starts_with('+') {
+            return Err(refusal(alloc, &mut command, "a limit is a number without a sign"));
+        }
     }
     let limits = limits_of(&matches);
     if let Err(limit) = limits.check() {
@@ -122,15 +124,6 @@ fn refusal(alloc: Global, command: &mut Command<'_>, message: &str) -> UsageFaul
         Ok(error) => usage_fault(alloc, &error),
         Err(_) => UsageFault::NoMemory,
     }
-}
-
-// Whether a limit has a sign before its digits.
-fn has_sign(matches: &ArgMatches<'_>) -> bool {
-    LIMITS.iter().any(|limit| {
-        matches
-            .get_str(limit.0)
-            .is_some_and(|number: &str| number.starts_with('+'))
-    })
 }
 
 // The number of one limit, or its standard value.
@@ -172,9 +165,13 @@ fn asked_for(
         limits,
         origins: matches.get_flag(ORIGINS),
     };
+    let mut folders = Vec::new(alloc);
+    for folder in matches.get_strs(FOLDER).unwrap_or(&[]) {
+        folders.push(String::from_str(alloc, folder)?)?;
+    }
     Ok(Invocation {
         options,
-        folders: folders(alloc, matches)?,
+        folders,
         output: file(alloc, matches, OUTPUT)?,
         source: String::from_str(alloc, matches.get_str(SOURCE).unwrap_or(""))?,
         reports: Reports {
@@ -219,13 +216,4 @@ fn definitions(
         ))?;
     }
     Ok(defines)
-}
-
-// The include folders, in order.
-fn folders(alloc: Global, matches: &ArgMatches<'_>) -> Result<Vec<String>, AllocError> {
-    let mut folders = Vec::new(alloc);
-    for folder in matches.get_strs(FOLDER).unwrap_or(&[]) {
-        folders.push(String::from_str(alloc, folder)?)?;
-    }
-    Ok(folders)
 }

@@ -6,7 +6,7 @@ ghost use Rattle.rdlpp.specs.Report.{Reports, limit_name, fault_line, line_end};
 use crate::PrepFault;
 use arrayvec::ArrayString;
 use itoa::Buffer;
-use rdlpp_expand::{Fault, FaultKind};
+use rdlpp_expand::Fault;
 use rdlpp_reports::{write_parts, write_whole};
 use rdlpp_table::LimitFault;
 use std::fmt::Write as _;
@@ -55,7 +55,9 @@ pub(crate) fn limit_name(limit: LimitFault) -> &'static str
 fn write_fault<W: Write>(fault: &Fault, writer: &mut W) -> io::Result<()>
     ensures { (text : List ℕ) × Writes (W.contents writer.old) (W.contents writer.new) (fault_line text fault.now) result }
 {
-    let text = text_of(fault.kind);
+    // Each text has at most 64 bytes.
+    let mut text = ArrayString::<64>::new();
+    let _whole = write!(text, "{}", fault.kind);
     let mut line = Buffer::new();
     let mut number = Buffer::new();
     let parts = [
@@ -69,13 +71,6 @@ fn write_fault<W: Write>(fault: &Fault, writer: &mut W) -> io::Result<()>
     ];
     write_parts(&parts, writer)?;
     write_word(fault.word.as_bytes(), writer)
-}
-
-// The text of a kind, which has at most 64 bytes.
-fn text_of(kind: FaultKind) -> ArrayString<64> {
-    let mut text = ArrayString::new();
-    let _whole = write!(text, "{kind}");
-    text
 }
 
 // Writes the word that a fault is about, in quotes, where there is one, and the line's end.
