@@ -47,8 +47,7 @@ const DEPS_HELP: &str = "Write to this file a rule for make with each source tha
 const DEFINITIONS_HELP: &str =
     "Write to this file the macros that are defined at the end, as define lines";
 
-const NOTES_HELP: &str =
-    "Write lines 'rdlpp: note: ..' behind a fault, with what helps to mend it";
+const NOTES_HELP: &str = "Write lines 'rdlpp: note: ..' behind a fault, with what helps to mend it";
 
 /// The options that take a limit, in the order of the fields of `Limits`, each with its help.
 pub(crate) const LIMITS: [(&str, &str); 9] = [
