@@ -115,14 +115,19 @@ impl RunFiles {
         let Some(id) = FileId::of(&file.metadata()?) else {
             return Ok(file);
         };
-        if self.has(id) {
+        if self.standard == Some(id) || self.taken.contains(&Some(id)) {
             let error = io::Error::new(ErrorKind::InvalidInput, "another output goes to this file");
             return Err(WriteFault::Failed(error));
         }
         if self.main == Some(id) || opened.is_some_and(|opened| opened.has(id)) {
             return Err(WriteFault::Source);
         }
-        self.take(id);
+        for taken in self.taken.iter_mut() {
+            if taken.is_none() {
+                *taken = Some(id);
+                break;
+            }
+        }
         file.set_len(0)?;
         Ok(file)
     }
@@ -130,21 +135,6 @@ impl RunFiles {
     /// The files that were opened, while these are two at most.
     pub fn opened(&self) -> FilePair {
         FilePair::of(self.taken[0], self.taken[1])
-    }
-
-    // Whether the text or a report goes to a file.
-    fn has(&self, file: FileId) -> bool {
-        self.standard == Some(file) || self.taken.iter().any(|taken| *taken == Some(file))
-    }
-
-    // Takes a file that is written.
-    fn take(&mut self, file: FileId) {
-        for taken in self.taken.iter_mut() {
-            if taken.is_none() {
-                *taken = Some(file);
-                return;
-            }
-        }
     }
 }
 

@@ -13,7 +13,7 @@ mod words;
 
 use files::RunFiles;
 use output::open_output;
-use rdlpp::{Folders, Invocation, PrepFault, UsageFault};
+use rdlpp::{Invocation, PrepFault, UsageFault};
 use reports::run_told;
 use std::alloc::AllocError;
 use std::io::Write;
@@ -48,15 +48,6 @@ fn run_invocation(rt: &HostRuntime, invocation: &Invocation) -> u8 {
             fault.status()
         }
     }
-}
-
-// The sources of a command line.
-fn folders_of<'r>(
-    rt: &'r HostRuntime,
-    invocation: &Invocation,
-) -> Result<Folders<'r, HostRuntime>, AllocError> {
-    let folders = folders_in(rt, invocation)?;
-    Folders::new(rt, rt.alloc(), folders.as_slice()).map_err(|_| AllocError)
 }
 
 // The include folders of a command line.

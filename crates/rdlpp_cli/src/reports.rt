@@ -7,7 +7,7 @@ use crate::files::{RunFiles, WriteFault};
 use crate::output::Output;
 use crate::telling::{tell_fault, tell_noted, tell_unwritten};
 use crate::watching::Watching;
-use crate::{OUTPUT_BYTES, folders_of};
+use crate::{OUTPUT_BYTES, folders_in};
 use rdlpp::{
     Buffered, Engine, Folders, Invocation, OpenedPaths, PrepFault, Recorded, Table, exit_status,
     new_engine, run_watched_from, write_definitions, write_dependencies,
@@ -24,7 +24,10 @@ pub fn run_told(
     files: &mut RunFiles,
     output: &mut Output,
 ) -> u8 {
-    let Ok(sources) = folders_of(rt, invocation) else {
+    let Ok(folders) = folders_in(rt, invocation) else {
+        return tell_unmade(rt, PrepFault::NoMemory);
+    };
+    let Ok(sources) = Folders::new(rt, rt.alloc(), folders.as_slice()) else {
         return tell_unmade(rt, PrepFault::NoMemory);
     };
     let sources = if is_noting(invocation) {
@@ -64,7 +67,16 @@ fn run_noted(
     if is_noting(invocation) || !written.is_empty() {
         engine.sources().sources().guard(written);
     }
-    let outcome = run_watched(rt, invocation, engine, output, &mut watching);
+    let outcome = match Buffered::with_capacity(rt.alloc(), OUTPUT_BYTES, &mut *output) {
+        Ok(mut writer) => run_watched_from(
+            engine,
+            &invocation.options,
+            invocation.source.as_str(),
+            &mut writer,
+            &mut watching,
+        ),
+        Err(_) => Err(PrepFault::NoMemory),
+    };
     if let Err(fault) = &outcome {
         match watching.places() {
             Some(places) => tell_noted(rt, invocation, fault, engine, places, output.failure()),
@@ -76,28 +88,6 @@ fn run_noted(
     let opened = engine.sources().opened();
     let told = rest_status(rt, invocation, opened, engine.table(), files);
     exit_status(&outcome).max(mapped).max(told)
-}
-
-// Preprocesses the source of a command line.
-fn run_watched(
-    rt: &HostRuntime,
-    invocation: &Invocation,
-    engine: &mut NotedEngine<'_>,
-    output: &mut Output,
-    watching: &mut Watching,
-) -> Result<u64, PrepFault>
-    requires { IsFreshOf invocation.now.options engine.old }
-{
-    let Ok(mut writer) = Buffered::with_capacity(rt.alloc(), OUTPUT_BYTES, output) else {
-        return Err(PrepFault::NoMemory);
-    };
-    run_watched_from(
-        engine,
-        &invocation.options,
-        invocation.source.as_str(),
-        &mut writer,
-        watching,
-    )
 }
 
 // Writes the rule for make and the macros, where they are asked for, and answers the exit status that tells how that went.
