@@ -3,7 +3,7 @@ ghost use Rattle.std.specs.Prelude.{◌≡◌, ◌&&◌};
 ghost use Rattle.rdlpp_read.specs.Buffer.{held_of};
 ghost use Rattle.rdlpp_read.specs.Files.{inner_buffer};
 ghost use Rattle.rdlpp_state.specs.Opening.{start_fault};
-ghost use Rattle.rdlpp_state.specs.Searches.{Retries, StartsAgain, begins_include, is_failed_call, is_failed_search, is_failed_start, is_over};
+ghost use Rattle.rdlpp_state.specs.Searches.{Retries, StartsAgain, begins_include, is_failed_call, is_failed_search, is_failed_start};
 ghost use Rattle.rdlpp_state.specs.Steps.{is_call_failed, may_follow};
 
 use super::Engine;
