@@ -1,6 +1,6 @@
 // The text of each kind of fault, and the kind of each number.
 ghost use Rattle.std.specs.Prelude.{◌≡◌, codes};
-ghost use Rattle.rdlpp_c.specs.Faults.{fault_text, found_text, kind_numbered, kind_text};
+ghost use Rattle.rdlpp_c.specs.Faults.{fault_text, kind_text};
 
 use rdlpp::FaultKind;
 
@@ -86,23 +86,13 @@ pub(crate) fn kind_text(kind: FaultKind) -> &'static [u8]
     }
 }
 
-// The kind of fault with a number, where one has it.
-fn kind_of(number: u32) -> Option<FaultKind>
-    ensures { result ≡ kind_numbered number }
-{
-    let place = number as usize;
-    if place == 0 || place > KINDS.len() {
-        return None;
-    }
-    Some(KINDS[place - 1])
-}
-
 // The text that is told of a number; empty where no kind of fault has it.
 pub(crate) fn text_of(number: u32) -> &'static [u8]
     ensures { result.now ≡ fault_text number }
 {
-    match kind_of(number) {
-        Some(kind) => kind_text(kind),
-        None => b"",
+    let place = number as usize;
+    if place == 0 || place > KINDS.len() {
+        return b"";
     }
+    kind_text(KINDS[place - 1])
 }

@@ -1,7 +1,7 @@
 // The calls by which a program in C tells what it was asked for.
 ghost use Rattle.std.specs.Prelude.{◌≡◌, IsUtf8, MatchResult};
 ghost use Rattle.std.specs.String.{string_bytes};
-ghost use Rattle.rdlpp_c.specs.Giving.{Gives, GivesOnce, GivesStanding, GivesText, TellsOnce, TellsPath, changed_path, given_status, is_asked, is_refused, once_status};
+ghost use Rattle.rdlpp_c.specs.Giving.{Gives, GivesOnce, GivesStanding, GivesText, changed_path, once_status};
 ghost use Rattle.rdlpp_source.specs.declared.asked.Standing.TheVariants.{Absent as Gone, Failed};
 ghost use Rattle.rdlpp_c.specs.declared.asking.Refusal.TheVariants.{BadText};
 
@@ -98,16 +98,9 @@ fn give_text(alloc: Global, stream: &mut Stream, path: &[u8], text: &[u8]) -> u3
 fn give_once(alloc: Global, stream: &mut Stream, path: &[u8], text: &[u8]) -> u32
     ensures { GivesOnce path.now text.now stream.old stream.new result }
 {
-    match text_of(path) {
-        Ok(path) => tell_once(alloc, stream, path, text),
-        Err(_) => BAD_TEXT,
-    }
-}
-
-// The same of a path that is a text.
-fn tell_once(alloc: Global, stream: &mut Stream, path: &str, text: &[u8]) -> u32
-    ensures { TellsOnce path.now text.now stream.old stream.new result }
-{
+    let Ok(path) = text_of(path) else {
+        return BAD_TEXT;
+    };
     let mut sources = stream.reading.replace_sources(AskedTexts::empty(alloc));
     let wanted = sources.wanted;
     let given = stream.once.give(alloc, &mut sources, path, text);
@@ -125,27 +118,14 @@ fn changed_path(
 ) -> Option<ArrayString<1024>>
     ensures { result ≡ changed_path given.now wanted path.now before }
 {
-    if is_refused(given) && is_asked(&wanted, path) {
+    let is_asked = match &wanted {
+        Some(wanted) => wanted.as_str() == path,
+        None => false,
+    };
+    if matches!(given, Ok(Given::Other)) && is_asked {
         wanted
     } else {
         before
-    }
-}
-
-// Whether a text was refused, since it is another one than before.
-fn is_refused(given: &Result<Given, AllocError>) -> bool
-    ensures { result ≡ is_refused given.now }
-{
-    matches!(given, Ok(Given::Other))
-}
-
-// Whether a path is the one that is asked for.
-fn is_asked(wanted: &Option<ArrayString<1024>>, path: &str) -> bool
-    ensures { result ≡ is_asked wanted.now path.now }
-{
-    match wanted {
-        Some(wanted) => wanted.as_str() == path,
-        None => false,
     }
 }
 
@@ -165,36 +145,17 @@ fn once_status(given: Result<Given, AllocError>) -> u32
 fn give(alloc: Global, stream: &mut Stream, path: &[u8], standing: Standing) -> u32
     ensures { GivesStanding path.now standing stream.old stream.new result }
 {
+    let path = match owned_path(alloc, path) {
+        Ok(path) => path,
+        Err(Refusal::BadText) => return BAD_TEXT,
+        Err(Refusal::NoMemory) => return NO_MEMORY,
+    };
     let mut sources = stream.reading.replace_sources(AskedTexts::empty(alloc));
-    let told = tell_path(alloc, &mut sources, path, standing);
+    let told = sources.tell(path, standing);
     let _empty = stream.reading.replace_sources(sources);
-    status_of(told)
-}
-
-// The status of what was told.
-fn status_of(told: Result<(), Refusal>) -> u32
-    ensures { result ≡ given_status told }
-{
     match told {
         Ok(()) => WHOLE,
-        Err(Refusal::BadText) => BAD_TEXT,
-        Err(Refusal::NoMemory) => NO_MEMORY,
-    }
-}
-
-// Tells sources what stands at a path.
-fn tell_path(
-    alloc: Global,
-    sources: &mut AskedTexts,
-    path: &[u8],
-    standing: Standing,
-) -> Result<(), Refusal>
-    ensures { TellsPath path.now standing sources.old sources.new result }
-{
-    let path = owned_path(alloc, path)?;
-    match sources.tell(path, standing) {
-        Ok(()) => Ok(()),
-        Err(_) => Err(Refusal::NoMemory),
+        Err(_) => NO_MEMORY,
     }
 }
 

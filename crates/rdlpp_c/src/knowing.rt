@@ -22,27 +22,18 @@ pub(crate) fn asked_texts(
     ensures { MatchResult result (λ made. KnowsTexts texts.now made × (made.folders ≡ folders) × (made.asks ≡ asks))
         (λ refusal. refusal ≡ BadText → ¬ (All (λ text. IsUtf8 text.path.now) texts.now)) }
 {
-    let known = known_texts(alloc, texts)?;
+    let mut sources = AskedTexts::empty(alloc);
+    for text in texts {
+        add_text(alloc, &mut sources, text)?;
+    }
     Ok(AskedTexts {
-        known: known.known,
+        known: sources.known,
         folders,
         asks,
         wanted: None,
         failures: 0,
         refusals: 0,
     })
-}
-
-// Sources that know the texts of a request.
-fn known_texts(alloc: Global, texts: &[Text<'_>]) -> Result<AskedTexts, Refusal>
-    ensures { MatchResult result (KnowsTexts texts.now)
-        (λ refusal. refusal ≡ BadText → ¬ (All (λ text. IsUtf8 text.path.now) texts.now)) }
-{
-    let mut sources = AskedTexts::empty(alloc);
-    for text in texts {
-        add_text(alloc, &mut sources, text)?;
-    }
-    Ok(sources)
 }
 
 // Adds a text of a request.

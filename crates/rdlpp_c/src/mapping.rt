@@ -137,37 +137,23 @@ fn map_part(stream: &mut Stream, part: &ReadPart, piece: &[u8], map: &mut [u8]) 
     ensures only { stream.new ≡ record stream.old { lines = stream.new.lines } }
 {
     match part.ending {
-        None => map_piece(stream, piece, map),
-        Some(_) => map_end(stream, part, map),
+        None => {
+            let Some(place) = part_place(&stream.reading, &stream.part) else {
+                return 0;
+            };
+            if !stream.lines.take(piece, &place) {
+                return 0;
+            }
+            write_line(stream.lines.ended(), map)
+        }
+        // Where a source is asked for the last run goes on.
+        Some(_) => {
+            if stream.wanted(part.ending).is_some() || !stream.lines.finish() {
+                return 0;
+            }
+            write_line(stream.lines.ended(), map)
+        }
     }
-}
-
-// Takes the piece that was read, and writes the run that ended, if one did. Answers how many bytes of the map were written.
-fn map_piece(stream: &mut Stream, piece: &[u8], map: &mut [u8]) -> usize
-    requires { 1100 ≤ length map.old }
-    ensures len { result ≤ length map.new }
-    ensures only { stream.new ≡ record stream.old { lines = stream.new.lines } }
-{
-    let Some(place) = part_place(&stream.reading, &stream.part) else {
-        return 0;
-    };
-    if !stream.lines.take(piece, &place) {
-        return 0;
-    }
-    write_line(stream.lines.ended(), map)
-}
-
-// Writes the last run where the output ended, and not with a source that is asked for. Answers how many bytes of the map were
-// written.
-fn map_end(stream: &mut Stream, part: &ReadPart, map: &mut [u8]) -> usize
-    requires { 1100 ≤ length map.old }
-    ensures len { result ≤ length map.new }
-    ensures only { stream.new ≡ record stream.old { lines = stream.new.lines } }
-{
-    if stream.wanted(part.ending).is_some() || !stream.lines.finish() {
-        return 0;
-    }
-    write_line(stream.lines.ended(), map)
 }
 
 // Writes a run as a line of the map, and answers how many bytes it has.

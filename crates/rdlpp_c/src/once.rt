@@ -1,10 +1,8 @@
 // What is kept of texts that are given once: of each path the mark of its text, by which another one is told from it.
 ghost use Rattle.std.specs.Prelude.{◌≡◌, ℕ, List, IfOk, OnOk, OnErr, None, Some, bytes_eq, true, if◌then◌else◌};
 ghost use Rattle.std.specs.Option.{option_map};
-ghost use Rattle.std.specs.String.{string_bytes};
 ghost use Rattle.rdlpp_source.specs.Asked.{Adds, Stays, standing_at};
-ghost use Rattle.rdlpp_source.specs.declared.asked.Standing.TheVariants.{Failed};
-ghost use Rattle.rdlpp_c.specs.Once.{Frees, GivenOnce, Stands, freed_at, is_open, is_other, last_of, mark_at, mark_of};
+ghost use Rattle.rdlpp_c.specs.Once.{Frees, GivenOnce, Stands, freed_at, is_open, is_other, last_of, mark_at};
 
 use crate::digest::digest_of;
 use crate::knowing::shared_text;
@@ -37,16 +35,6 @@ pub(crate) struct Once {
     marks: BTreeMap<String, Mark>,
     // the path whose text is known until the next one is given
     last: Option<String>,
-}
-
-// The mark of a text.
-fn mark_of(text: &[u8]) -> Mark
-    ensures { result ≡ mark_of text.now }
-{
-    Mark {
-        length: text.len(),
-        digest: digest_of(text),
-    }
 }
 
 impl Once {
@@ -85,19 +73,6 @@ impl Once {
         }
     }
 
-    // Keeps the mark of a path's text.
-    #[tactic(auto, using(std::proofs::lemmas::Map::Text::text_keys), unfolding(crate::specs::Once::mark_at))]
-    fn mark(&mut self, path: String, mark: Mark) -> Result<(), AllocError>
-        ensures marked { OnOk result ((q : List ℕ) → mark_at self.new q ≡ (if bytes_eq q (string_bytes path) then Some mark else mark_at self.old q)) }
-        ensures refused { OnErr result ((q : List ℕ) → mark_at self.new q ≡ mark_at self.old q) }
-        ensures only { self.new ≡ record self.old { marks = self.new.marks } }
-    {
-        match self.marks.insert(path, mark) {
-            Ok(_) => Ok(()),
-            Err(_) => Err(AllocError),
-        }
-    }
-
     // Gives the text of the source at a path, and forgets the one that was given last. Its mark is kept: another text than
     // the one that was given of this path before is told as a source that can't be opened. Where memory was refused nothing
     // is known of the path, as before.
@@ -132,9 +107,12 @@ impl Once {
         if !is_open(sources, path) {
             return Ok(Given::Known);
         }
-        let mark = mark_of(text);
+        let mark = Mark {
+            length: text.len(),
+            digest: digest_of(text),
+        };
         if self.is_other(path, &mark) {
-            refuse(alloc, sources, path)?;
+            sources.add(String::from_str(alloc, path)?, Standing::Failed)?;
             return Ok(Given::Other);
         }
         let text = Standing::Text(shared_text(alloc, text)?);
@@ -143,7 +121,7 @@ impl Once {
     }
 
     // Takes the text of a path of which nothing is known.
-    #[tactic(auto, unfolding(crate::specs::Once::mark_at))]
+    #[tactic(auto, using(std::proofs::lemmas::Map::Text::text_keys), unfolding(crate::specs::Once::mark_at, rdlpp_source::specs::Asked::standing_at))]
     fn take(
         &mut self,
         alloc: Global,
@@ -164,14 +142,14 @@ impl Once {
         let last = String::from_str(alloc, path)?;
         let marked = String::from_str(alloc, path)?;
         sources.add(String::from_str(alloc, path)?, text)?;
-        match self.mark(marked, mark) {
-            Ok(()) => {
+        match self.marks.insert(marked, mark) {
+            Ok(_) => {
                 self.last = Some(last);
                 Ok(())
             }
-            Err(refused) => {
-                forget(sources, path);
-                Err(refused)
+            Err(_) => {
+                let _standing = sources.known.remove(path);
+                Err(AllocError)
             }
         }
     }
@@ -183,22 +161,4 @@ fn is_open(sources: &AskedTexts, path: &str) -> bool
     ensures { result ≡ is_open sources.now.asks (standing_at sources.now path.now) }
 {
     sources.asks && !sources.known.contains_key(path)
-}
-
-// Tells that the source at a path can't be opened.
-fn refuse(alloc: Global, sources: &mut AskedTexts, path: &str) -> Result<(), AllocError>
-    ensures adds { OnOk result (Adds sources.old sources.new true path.now Failed) }
-    ensures stays { OnErr result (Stays sources.old sources.new) }
-    ensures only { sources.new ≡ record sources.old { known = sources.new.known } }
-{
-    sources.add(String::from_str(alloc, path)?, Standing::Failed)
-}
-
-// Forgets what is known of a path.
-#[tactic(auto, using(std::proofs::lemmas::Map::Text::text_keys), unfolding(rdlpp_source::specs::Asked::standing_at))]
-fn forget(sources: &mut AskedTexts, path: &str)
-    ensures sources { (q : List ℕ) → standing_at sources.new q ≡ (if bytes_eq q path.now then None else standing_at sources.old q) }
-    ensures only { sources.new ≡ record sources.old { known = sources.new.known } }
-{
-    let _standing = sources.known.remove(path);
 }

@@ -1,12 +1,11 @@
 // How an output is opened: the lists that a call asks for, as sources that own their texts.
-ghost use Rattle.std.specs.Prelude.{◌≡◌, Err, IfOk, IfSome, IsUtf8, None, OnOk, map, MatchResult};
+ghost use Rattle.std.specs.Prelude.{◌≡◌, Err, IfOk, IsUtf8, None, OnOk, map, MatchResult};
 ghost use Rattle.std.specs.List.{All};
-ghost use Rattle.std.specs.Option.{option_map};
 ghost use Rattle.std.specs.String.{string_bytes};
 ghost use Rattle.rdlpp_table.specs.Limits.{limit_fault};
 ghost use Rattle.rdlpp_c.specs.Request.{AreUtf8, definition_given, requested};
 ghost use Rattle.rdlpp_c.specs.Reopening.{IsUnread, reopened};
-ghost use Rattle.rdlpp_c.specs.Streaming.{AreOwned, OpensOwned, OpensStream, boxed, boxed_answer, refused_answer};
+ghost use Rattle.rdlpp_c.specs.Streaming.{AreOwned, OpensOwned, OpensStream, boxed_answer, refused_answer};
 ghost use Rattle.rdlpp_c.specs.declared.asking.Refusal.TheVariants.{BadText, NoMemory};
 
 use crate::arrays::{Folder, Request, limits_of};
@@ -14,17 +13,9 @@ use crate::asking::{Answer, Refusal, definitions_of};
 use crate::giving::owned_path;
 use crate::knowing::asked_texts;
 use crate::stream::Stream;
-use rdlpp::{Limits, Options, PrepFault, RunFault, open_reading, reopen_reading};
+use rdlpp::{Options, PrepFault, RunFault, open_reading, reopen_reading};
 use rdlpp_source::AskedTexts;
 use std::alloc::Global;
-
-// One include folder.
-fn owned_folder(alloc: Global, folder: &Folder<'_>) -> Result<String, Refusal>
-    ensures { MatchResult result (λ made. string_bytes made ≡ folder.now.path.now)
-        (λ refusal. refusal ≡ BadText → ¬ (IsUtf8 folder.now.path.now)) }
-{
-    owned_path(alloc, folder.path)
-}
 
 // The include folders.
 fn owned_folders(alloc: Global, folders: &[Folder<'_>]) -> Result<Vec<String>, Refusal>
@@ -33,7 +24,7 @@ fn owned_folders(alloc: Global, folders: &[Folder<'_>]) -> Result<Vec<String>, R
 {
     let mut paths = Vec::new(alloc);
     for folder in folders {
-        let path = owned_folder(alloc, folder)?;
+        let path = owned_path(alloc, folder.path)?;
         if paths.push(path).is_err() {
             return Err(Refusal::NoMemory);
         }
@@ -117,9 +108,13 @@ pub(crate) fn reopen_stream(
     ensures opens { OpensStream (requested request.now) (boxed_answer result) }
     ensures unread { IfOk (boxed_answer result) IsUnread }
 {
-    let Some(mut stream) = with_limits(before, &limits_of(&request.limits)) else {
+    let Some(mut stream) = before else {
         return open_stream(alloc, request);
     };
+    if !stream.has_limits(&limits_of(&request.limits)) {
+        drop(stream);
+        return open_stream(alloc, request);
+    }
     let owned = match checked_of(alloc, request) {
         Ok(owned) => owned,
         Err(answer) => return Err(answer),
@@ -127,18 +122,6 @@ pub(crate) fn reopen_stream(
     match reopen_owned(alloc, &mut stream, owned) {
         Ok(()) => Ok(stream),
         Err(fault) => Err(Answer::Stopped(fault)),
-    }
-}
-
-// What was open before, where it has these limits; else it is closed.
-fn with_limits(before: Option<Box<Stream>>, limits: &Limits) -> Option<Box<Stream>>
-    ensures { IfSome (option_map boxed result) (λ s. s.reading.engine.limits ≡ limits.now) }
-{
-    let stream = before?;
-    if stream.has_limits(limits) {
-        Some(stream)
-    } else {
-        None
     }
 }
 

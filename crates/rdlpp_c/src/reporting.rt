@@ -1,15 +1,15 @@
 // The calls by which a program in C learns what an output leaves: its definitions, and notes on its fault.
 ghost use Rattle.rdlpp_reports.specs.Definitions.{definition_lines};
-ghost use Rattle.rdlpp_c.specs.Reporting.{Notes, TellsDefinitions, TellsNotes, TellsOrNot, TellsSome};
+ghost use Rattle.rdlpp_c.specs.Reporting.{Notes, TellsDefinitions, TellsNotes, TellsOrNot};
 ghost use Rattle.rdlpp_c.specs.Streaming.{stream_fault};
 
 use crate::handle::{Handle, put, take};
 use crate::stream::Stream;
 use crate::telling::tell_text;
-use rdlpp::{Fault, FaultKind};
+use rdlpp::FaultKind;
 use rdlpp_reports::{write_definitions, write_failure, write_notes};
 use rdlpp_table::Table;
-use std::alloc::{AllocError, Global};
+use std::alloc::Global;
 use std::io::{self, ErrorKind};
 
 // Why a source isn't opened whose text is another one than before.
@@ -38,7 +38,7 @@ pub extern "C" fn rdlpp_notes(alloc: Global, handle: &mut Handle, out: &mut [u8]
     let Some(stream) = take(alloc, handle) else {
         return 0;
     };
-    let len = tell_fault_notes(alloc, &stream, out);
+    let len = tell_notes(alloc, &stream, out);
     put(handle, stream);
     len
 }
@@ -55,54 +55,31 @@ fn tell_definitions(alloc: Global, table: &Table, out: &mut [u8]) -> usize
 }
 
 // Tells the notes on the fault that ended an output, if one did.
-fn tell_fault_notes(alloc: Global, stream: &Stream, out: &mut [u8]) -> usize
+fn tell_notes(alloc: Global, stream: &Stream, out: &mut [u8]) -> usize
     ensures { Notes (stream_fault stream.now) out.old out.new result }
 {
-    match stream.fault() {
-        Some(fault) => tell_notes(alloc, stream, &fault, out),
-        None => 0,
-    }
-}
-
-// Tells the notes on a fault.
-fn tell_notes(alloc: Global, stream: &Stream, fault: &Fault, out: &mut [u8]) -> usize
-    ensures { TellsSome out.old out.new result }
-{
-    let engine = stream.reading.engine();
-    let Ok(folders) = folders_of(alloc, &engine.sources().folders) else {
+    let Some(fault) = stream.fault() else {
         return 0;
     };
-    let mut lines = Vec::new(alloc);
-    if write_changed(stream, fault, &mut lines).is_err() {
-        return 0;
+    let engine = stream.reading.engine();
+    let mut folders = Vec::new(alloc);
+    for folder in &engine.sources().folders {
+        if folders.push(folder.as_str()).is_err() {
+            return 0;
+        }
     }
-    match write_notes(fault, engine, &folders, &mut lines) {
+    let mut lines = Vec::new(alloc);
+    // A source that couldn't be opened may be one whose text is another one than before.
+    if fault.kind == FaultKind::ReadFailed
+        && let Some(path) = &stream.changed
+    {
+        let error = io::Error::new(ErrorKind::InvalidInput, CHANGED);
+        if write_failure(path.as_str(), &error, &mut lines).is_err() {
+            return 0;
+        }
+    }
+    match write_notes(&fault, engine, &folders, &mut lines) {
         Ok(()) => tell_text(&lines, out),
         Err(_) => 0,
     }
-}
-
-// Writes the note on the source that couldn't be opened since its text is another one than before, if that is the fault.
-fn write_changed(stream: &Stream, fault: &Fault, lines: &mut Vec<u8>) -> io::Result<()> {
-    if fault.kind != FaultKind::ReadFailed {
-        return Ok(());
-    }
-    match &stream.changed {
-        Some(path) => {
-            let error = io::Error::new(ErrorKind::InvalidInput, CHANGED);
-            write_failure(path.as_str(), &error, lines)
-        }
-        None => Ok(()),
-    }
-}
-
-// The include folders.
-fn folders_of<'a>(alloc: Global, folders: &'a [String]) -> Result<Vec<&'a str>, AllocError> {
-    let mut paths = Vec::new(alloc);
-    for folder in folders {
-        if paths.push(folder.as_str()).is_err() {
-            return Err(AllocError);
-        }
-    }
-    Ok(paths)
 }

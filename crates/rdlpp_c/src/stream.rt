@@ -1,16 +1,14 @@
 // What a handle owns, and how a read of it is told.
-ghost use Rattle.std.specs.Prelude.{◌≡◌, ◌≤◌, ◌==◌, None, Some, true, length};
-ghost use Rattle.std.specs.List.{count_by};
+ghost use Rattle.std.specs.Prelude.{◌≡◌, ◌≤◌, true, length};
 ghost use Rattle.std.specs.Option.{option_map};
 ghost use Rattle.rdlpp_meaning.specs.Outcome.{report_of};
 ghost use Rattle.rdlpp_source.specs.Asked.{wanted_of};
 ghost use Rattle.rdlpp_state.specs.Marks.{told_position};
 ghost use Rattle.rdlpp_state.specs.Positions.{position_of};
 ghost use Rattle.rdlpp_expand.specs.Reading.{ended_with};
-ghost use Rattle.rdlpp_c.specs.Buffers.{overwritten};
 ghost use Rattle.rdlpp_c.specs.Placing.{part_position, stream_place};
 ghost use Rattle.rdlpp_c.specs.Reopening.{IsUnread, no_part};
-ghost use Rattle.rdlpp_c.specs.Streaming.{IsQuiet, ReadsBytes, ReadsPiece, ReadsStream, SearchesAgain, StaysQuiet, TakesUp, TellsRead, fault_name, fault_word, read_numbers, read_wanted, stream_fault, told_numbers, wanted_by};
+ghost use Rattle.rdlpp_c.specs.Streaming.{IsQuiet, ReadsBytes, ReadsPiece, ReadsStream, StaysQuiet, TakesUp, TellsRead, read_wanted, stream_fault};
 
 use crate::once::Once;
 use crate::telling::{MORE, Outcome, STOPPED, WANTED, WHOLE, numbered, tell_text};
@@ -115,16 +113,10 @@ impl Stream {
         ensures { TakesUp (wanted_of self.old.reading.engine.sources) self.old self.new }
     {
         if self.reading.engine().sources().wanted.is_some() {
-            self.search_again();
+            // The search that asked is made once more: that of an `include`, or that of the main text.
+            self.reading.retry();
+            let _started = self.reading.start_again(self.path.as_str());
         }
-    }
-
-    // Makes the search that asked once more: that of an `include`, or that of the main text.
-    fn search_again(&mut self)
-        ensures { SearchesAgain self.old self.new }
-    {
-        self.reading.retry();
-        let _started = self.reading.start_again(self.path.as_str());
     }
 
     // Reads the next bytes.
@@ -140,6 +132,7 @@ impl Stream {
     }
 
     // Reads the next bytes of one piece, by what is left for steps without bytes, and counts their lines.
+    #[tactic(auto, unfolding(rdlpp_scan::specs::SourceTokens::line_ends, rdlpp_scan::specs::Bytes::is_line_end))]
     pub(crate) fn read_piece(&mut self, out: &mut [u8], left: &mut usize) -> ReadPart
         requires { left.old ≤ 65535 }
         ensures piece { ReadsPiece self.old self.new out.old out.new result.len result.ending }
@@ -154,7 +147,7 @@ impl Stream {
             } else {
                 self.part.lines_before.saturating_add(self.part.lines)
             },
-            lines: line_ends(&out[..part.len]),
+            lines: line_ends_in(&out[..part.len]) as u64,
             is_empty: part.len == 0,
         };
         part
@@ -171,12 +164,18 @@ impl Stream {
     }
 
     // The path that is asked for, where a read ended with a search that asked.
-    #[tactic(auto, unfolding(rdlpp_meaning::specs::Outcome::report_of))]
+    #[tactic(auto, unfolding(rdlpp_meaning::specs::Outcome::report_of, rdlpp_state::specs::Steps::is_read_failed))]
     pub(crate) fn wanted(&self, ending: Option<ReadEnd>) -> Option<ArrayString<1024>>
         ensures { option_map (λ path. path.bytes) result ≡ read_wanted (ended_with ending self.now.reading.engine.kept) self.now.reading.engine.sources }
     {
         match ended_fault(&self.reading, ending) {
-            Some(fault) => wanted_after(fault.kind, self.reading.engine().sources()),
+            Some(fault) => {
+                if fault.kind == FaultKind::ReadFailed {
+                    self.reading.engine().sources().wanted
+                } else {
+                    None
+                }
+            }
             None => None,
         }
     }
@@ -189,18 +188,6 @@ impl Stream {
             Some(_) => None,
             None => self.reading.fault(),
         }
-    }
-}
-
-// The path that is asked for, where the kind of a fault is that of a device.
-#[tactic(auto, unfolding(rdlpp_state::specs::Steps::is_read_failed))]
-fn wanted_after(kind: FaultKind, sources: &AskedTexts) -> Option<ArrayString<1024>>
-    ensures { option_map (λ path. path.bytes) result ≡ wanted_by kind sources.now }
-{
-    if kind == FaultKind::ReadFailed {
-        sources.wanted
-    } else {
-        None
     }
 }
 
@@ -237,55 +224,6 @@ pub(crate) fn ended_fault<S: Sources>(
     }
 }
 
-// The numbers of a read.
-#[tactic(auto, unfolding(rdlpp_meaning::specs::Outcome::report_of))]
-fn read_outcome(part: &ReadPart, fault: &Option<Fault>) -> Outcome
-    ensures { result ≡ read_numbers part.now.len part.now.ending (option_map report_of fault.now) }
-{
-    match fault {
-        Some(fault) => Outcome {
-            status: STOPPED,
-            number: fault.kind.number(),
-            line: fault.line,
-            length: part.len as u64,
-            name_length: fault.name.len(),
-            word_length: fault.word.len(),
-        },
-        None => Outcome {
-            status: if part.ending.is_none() { MORE } else { WHOLE },
-            number: 0,
-            line: 0,
-            length: part.len as u64,
-            name_length: 0,
-            word_length: 0,
-        },
-    }
-}
-
-// Writes the shown name and the word of a fault, where there is one.
-#[tactic(auto, unfolding(rdlpp_meaning::specs::Outcome::report_of))]
-fn tell_read(fault: &Option<Fault>, name: &mut [u8], word: &mut [u8])
-    ensures name { name.new ≡ overwritten (fault_name (option_map report_of fault.now)) name.old }
-    ensures word { word.new ≡ overwritten (fault_word (option_map report_of fault.now)) word.old }
-{
-    if let Some(fault) = fault {
-        let _name_len = tell_text(fault.name.as_bytes(), name);
-        let _word_len = tell_text(fault.word.as_bytes(), word);
-    }
-}
-
-// Tells a path that is asked for.
-fn tell_wanted(part: &ReadPart, path: &str, name: &mut [u8]) -> Outcome
-    ensures numbers { result ≡ told_numbers part.now.len part.now.ending None (Some path.now) }
-    ensures name { name.new ≡ overwritten path.now name.old }
-{
-    Outcome {
-        length: part.len as u64,
-        name_length: tell_text(path.as_bytes(), name),
-        ..numbered(WANTED, 0)
-    }
-}
-
 // Reads the next bytes of an output, and tells how that ended.
 pub(crate) fn read_stream(
     stream: &mut Stream,
@@ -302,6 +240,7 @@ pub(crate) fn read_stream(
 }
 
 // Tells what a read gave, and how it ended.
+#[tactic(auto, unfolding(rdlpp_meaning::specs::Outcome::report_of))]
 pub(crate) fn told_read(
     stream: &Stream,
     part: &ReadPart,
@@ -313,17 +252,24 @@ pub(crate) fn told_read(
         (record { name = name.old; word = word.old }) (record { name = name.new; word = word.new }) result }
 {
     if let Some(path) = stream.wanted(part.ending) {
-        return tell_wanted(part, path.as_str(), name);
+        return Outcome {
+            length: part.len as u64,
+            name_length: tell_text(path.as_bytes(), name),
+            ..numbered(WANTED, 0)
+        };
     }
-    let fault = ended_fault(&stream.reading, part.ending);
-    tell_read(&fault, name, word);
-    read_outcome(part, &fault)
-}
-
-// How many LF bytes there are.
-#[tactic(auto, unfolding(rdlpp_scan::specs::SourceTokens::line_ends, rdlpp_scan::specs::Bytes::is_line_end))]
-fn line_ends(bytes: &[u8]) -> u64
-    ensures { result ≡ count_by (λ b. b == 10) bytes.now }
-{
-    line_ends_in(bytes) as u64
+    match ended_fault(&stream.reading, part.ending) {
+        Some(fault) => Outcome {
+            status: STOPPED,
+            number: fault.kind.number(),
+            line: fault.line,
+            length: part.len as u64,
+            name_length: tell_text(fault.name.as_bytes(), name),
+            word_length: tell_text(fault.word.as_bytes(), word),
+        },
+        None => Outcome {
+            length: part.len as u64,
+            ..numbered(if part.ending.is_none() { MORE } else { WHOLE }, 0)
+        },
+    }
 }

@@ -4,7 +4,7 @@ ghost use Rattle.rdlpp_c.specs.Buffers.{overwritten};
 ghost use Rattle.rdlpp_c.specs.Telling.{TellsText, limit_place, numbered, outcome_of, name_bytes, word_bytes};
 
 use crate::asking::Answer;
-use rdlpp::{LimitFault, RunFault};
+use rdlpp::LimitFault;
 
 // The output is whole.
 pub(crate) const WHOLE: u32 = 0;
@@ -72,20 +72,6 @@ pub(crate) fn numbered(status: u32, number: u32) -> Outcome
     }
 }
 
-// The numbers of a fault that ended the output.
-fn stopped(run: &RunFault) -> Outcome
-    ensures { result ≡ outcome_of (Answer.Stopped run.now) }
-{
-    Outcome {
-        status: STOPPED,
-        number: run.fault.kind.number(),
-        line: run.fault.line,
-        length: run.written,
-        name_length: run.fault.name.len(),
-        word_length: run.fault.word.len(),
-    }
-}
-
 // The place of a limit among the fields, from 1.
 fn limit_place(limit: LimitFault) -> u32
     ensures { result ≡ limit_place limit }
@@ -121,7 +107,14 @@ pub(crate) fn outcome_of(answer: &Answer) -> Outcome
             length: *count,
             ..numbered(WHOLE, 0)
         },
-        Answer::Stopped(run) => stopped(run),
+        Answer::Stopped(run) => Outcome {
+            status: STOPPED,
+            number: run.fault.kind.number(),
+            line: run.fault.line,
+            length: run.written,
+            name_length: run.fault.name.len(),
+            word_length: run.fault.word.len(),
+        },
         Answer::BadLimit(limit) => numbered(BAD_LIMIT, limit_place(*limit)),
         Answer::BadText => numbered(BAD_TEXT, 0),
         Answer::NoMemory => numbered(NO_MEMORY, 0),

@@ -1,6 +1,6 @@
 use Rattle.std.proofs.lemmas.Result.{err_from_is_err_and}
 use Rattle.rdlpp_c.proofs.Onces.{knows_more}
-use Rattle.rdlpp_c.proofs.knowing.known_texts.Goals as goal
+use Rattle.rdlpp_c.proofs.knowing.asked_texts.Goals as goal
 
 pub returns-in_err-add_text : goal.returns-in_err-add_text
 returns-in_err-add_text c =
