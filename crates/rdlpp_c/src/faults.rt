@@ -1,5 +1,5 @@
 // The text of each kind of fault, and the kind of each number.
-ghost use Rattle.std.specs.Prelude.{◌≡◌, codes};
+ghost use Rattle.std.specs.Prelude.{◌≡◌};
 ghost use Rattle.rdlpp_c.specs.Faults.{fault_text, kind_text};
 
 use rdlpp::FaultKind;

@@ -1,6 +1,5 @@
 // What is kept of texts that are given once: of each path the mark of its text, by which another one is told from it.
 ghost use Rattle.std.specs.Prelude.{◌≡◌, ℕ, List, IfOk, OnOk, OnErr, None, Some, bytes_eq, true, if◌then◌else◌};
-ghost use Rattle.std.specs.Option.{option_map};
 ghost use Rattle.rdlpp_source.specs.Asked.{Adds, Stays, standing_at};
 ghost use Rattle.rdlpp_c.specs.Once.{Frees, GivenOnce, Stands, freed_at, is_open, is_other, last_of, mark_at};
 
