@@ -30,7 +30,7 @@ fn main(rt: HostRuntime) -> ExitCode {
     };
     let Some((part, limits)) = read_request(&request[..len.min(REQUEST_BYTES)]) else {
         let _told = eprintln!(rt;
-            "usage: nothing|table|engine|run|folders|words [LIMIT=NUMBER ..], on standard input"
+            "usage: nothing|table|engine|run|folders [LIMIT=NUMBER ..], on standard input"
         );
         return ExitCode::from(USAGE_STATUS);
     };

@@ -1,6 +1,6 @@
 //! Parts of the library that ask for memory when they are made.
 
-use rdlpp::{Folders, Limits, Texts, UsageFault, parse_words};
+use rdlpp::{Folders, Limits, Texts};
 use rdlpp_expand::{Engine, NewFault};
 use rdlpp_table::Table;
 use std::fmt::{self, Display, Formatter, Write};
@@ -33,7 +33,6 @@ pub(crate) fn make(rt: &HostRuntime, part: &str, limits: Limits) -> Answer {
         "table" => make_table(rt, limits),
         "engine" => make_engine(rt, limits),
         "folders" => make_folders(rt),
-        "words" => read_words(rt),
         _ => Answer::Another,
     }
 }
@@ -67,26 +66,5 @@ fn make_folders(rt: &HostRuntime) -> Answer {
     match Folders::new(rt, rt.alloc(), &["inc", "more/"]) {
         Ok(_folders) => Answer::Made,
         Err(_) => Answer::NoMemory,
-    }
-}
-
-// Reads the words of a command line.
-fn read_words(rt: &HostRuntime) -> Answer {
-    let words = [
-        "rdlpp",
-        "-D",
-        "W=8",
-        "-I",
-        "inc",
-        "--max-depth",
-        "4",
-        "-o",
-        "out",
-        "a.rdl",
-    ];
-    match parse_words(rt.alloc(), &words) {
-        Ok(_invocation) => Answer::Made,
-        Err(UsageFault::NoMemory) => Answer::NoMemory,
-        Err(_) => Answer::Another,
     }
 }

@@ -1,6 +1,6 @@
-//! Tests of what no contract says and no row of `rdlpp_rows` shows: that what needs memory is made where there is enough, what is
-//! held piece by piece, how often sources and sinks are asked, where a failure is told to have come, printed texts, and files and
-//! folders.
+//! Tests of what no contract says and no row of `rdlpp_rows` shows: that a text that is owned is found where there is memory, what
+//! is held piece by piece, how often sources and sinks are asked, where a failure is told to have come, and printed texts. What
+//! files and folders come to is in `checks/rows` and `checks/usage`, and that there is memory for each part in `checks/refusals`.
 #![tactic(auto)]
 
 #[cfg(test)]
@@ -9,8 +9,6 @@ mod asked_tests;
 mod buffered_tests;
 #[cfg(test)]
 mod failure_tests;
-#[cfg(test)]
-mod folder_tests;
 #[cfg(test)]
 mod held_tests;
 #[cfg(test)]

@@ -1,29 +1,8 @@
-// Engines, sources and sinks are made with ample memory: no contract says that memory is ever found. An engine makes each store
-// of its own.
-use crate::runs::STANDARD;
-use rdlpp::{Folders, Options, Sources, Texts, open_reading};
-use rdlpp_expand::Engine;
-use rdlpp_source::{AskedTexts, Buffered, SourceFault, Standing};
+// Texts that are owned are found with ample memory: no contract says that memory is ever found.
+use rdlpp::Sources;
+use rdlpp_source::{AskedTexts, SourceFault, Standing};
 use std::rc::Rc;
 use std::test::Fail;
-
-#[test]
-fn makes_each_engine_and_sink(rt: HostRuntime) {
-    let texts = Texts {
-        files: &[],
-        folders: &[],
-    };
-    assert!(rt; Engine::new(rt.alloc(), STANDARD, texts, false).is_ok());
-    let options = Options {
-        defines: Vec::new(rt.alloc()),
-        limits: STANDARD,
-        origins: false,
-    };
-    assert!(rt; open_reading(rt.alloc(), &options, texts, "m").is_ok());
-    assert!(rt; Folders::new(&rt, rt.alloc(), &["x", "y/"]).is_ok());
-    let sink = Buffered::with_capacity(rt.alloc(), 8, Vec::new(rt.alloc()));
-    assert!(rt; sink.is_ok());
-}
 
 // A text that is owned has room for a reader; a path of which nothing is known is asked for, and what is told of it counts.
 #[test]
