@@ -1,12 +1,10 @@
-//! Preprocessing as one call: options, sources over files, faults, exit statuses, the line that reports
-//! a fault, and the words of a command line.
+//! Preprocessing as one call: options, sources over files, faults, exit statuses, and the line that
+//! reports a fault.
 #![tactic(auto)]
 
-mod command;
 mod defining;
 mod fault;
 mod folders;
-mod invocation;
 mod opening;
 mod options;
 mod preprocessing;
@@ -18,7 +16,6 @@ mod written;
 
 pub use fault::PrepFault;
 pub use folders::{FileFailure, FolderReader, Folders};
-pub use invocation::{Invocation, Reports, UsageFault, parse_words};
 pub use opening::{open_reading, reopen_reading};
 pub use options::Options;
 pub use preprocessing::preprocess;
@@ -33,7 +30,7 @@ pub use rdlpp_reports::{
 pub use rdlpp_source::{Buffered, Counted, Found, Sink, SinkFault, SourceFault, Sources, Texts};
 pub use rdlpp_table::{LimitFault, Limits, NoMemory, Table};
 pub use renewing::Preprocessor;
-pub use reporting::report;
+pub use reporting::{limit_name, report};
 pub use running::{new_engine, run_watched_from};
 pub use status::exit_status;
 pub use written::FilePair;

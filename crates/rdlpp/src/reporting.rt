@@ -34,8 +34,8 @@ pub fn report<W: Write>(fault: &PrepFault, writer: &mut W) -> Result<(), io::Err
     }
 }
 
-// The name of the field that is out of its range.
-pub(crate) fn limit_name(limit: LimitFault) -> &'static str
+/// The name of the field of `Limits` that is out of its range, as `report` writes it (this project's profile).
+pub fn limit_name(limit: LimitFault) -> &'static str
     ensures { result.now ≡ limit_name limit }
 {
     match limit {

@@ -1,8 +1,8 @@
 -- The exit statuses of words that ask for no run, and of files that aren't written.
 -- A definition that names no source is this project's own.
 use Rattle.std.specs.Prelude.{◌≡◌, ◌⊎◌, ℕ, Result, Ok, Err}
-use Rattle.rdlpp.specs.declared.invocation.UsageFault.{UsageFault}
-use Rattle.rdlpp.specs.declared.invocation.UsageFault.TheVariants.{Help, Bad, NoMemory}
+use Rattle.rdlpp_words.specs.declared.invocation.UsageFault.{UsageFault}
+use Rattle.rdlpp_words.specs.declared.invocation.UsageFault.TheVariants.{Help, Bad, NoMemory}
 use Rattle.rdlpp_cli.specs.declared.files.WriteFault.{WriteFault}
 use Rattle.rdlpp_cli.specs.declared.files.WriteFault.TheVariants.{Failed, Source}
 

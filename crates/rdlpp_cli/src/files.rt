@@ -3,7 +3,8 @@ ghost use Rattle.std.specs.Prelude.{◌≡◌};
 ghost use Rattle.rdlpp_cli.specs.Statuses.{write_status};
 
 use crate::{DEVICE_STATUS, USAGE_STATUS};
-use rdlpp::{FileId, FilePair, Invocation, OpenedPaths};
+use rdlpp::{FileId, FilePair, OpenedPaths};
+use rdlpp_words::Invocation;
 use std::fs::{self, File, OpenOptions};
 use std::io::{self, ErrorKind};
 

@@ -13,7 +13,8 @@ mod words;
 
 use files::RunFiles;
 use output::open_output;
-use rdlpp::{Invocation, PrepFault, UsageFault};
+use rdlpp::PrepFault;
+use rdlpp_words::{Invocation, UsageFault};
 use reports::run_told;
 use std::alloc::AllocError;
 use std::io::Write;

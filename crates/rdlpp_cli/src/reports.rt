@@ -9,9 +9,10 @@ use crate::telling::{tell_fault, tell_noted, tell_unwritten};
 use crate::watching::Watching;
 use crate::{OUTPUT_BYTES, folders_in};
 use rdlpp::{
-    Buffered, Engine, Folders, Invocation, OpenedPaths, PrepFault, Recorded, Table, exit_status,
-    new_engine, run_watched_from, write_definitions, write_dependencies,
+    Buffered, Engine, Folders, OpenedPaths, PrepFault, Recorded, Table, exit_status, new_engine,
+    run_watched_from, write_definitions, write_dependencies,
 };
+use rdlpp_words::Invocation;
 use std::io::{BufWriter, Write};
 
 /// An engine that may note what it opens.

@@ -3,9 +3,10 @@ use crate::files::WriteFault;
 use crate::folders_in;
 use crate::reports::NotedEngine;
 use rdlpp::{
-    DefinitionPlaces, Fault, FaultKind, Invocation, PrepFault, report, write_defined,
-    write_failure, write_notes,
+    DefinitionPlaces, Fault, FaultKind, PrepFault, report, write_defined, write_failure,
+    write_notes,
 };
+use rdlpp_words::Invocation;
 use std::io::{self, BufWriter, Write};
 
 // The bytes of the buffer in front of the line that reports a fault, which is never longer.

@@ -1,7 +1,8 @@
 //! What a run is watched for: the place of each line, and where macros are defined, where these are asked for.
 use crate::files::{RunFiles, WriteFault};
 use crate::mapping::{Mapping, open_mapping};
-use rdlpp::{DefinitionPlaces, Invocation, OpenSource, Placed, Table, Watcher};
+use rdlpp::{DefinitionPlaces, OpenSource, Placed, Table, Watcher};
+use rdlpp_words::Invocation;
 
 /// What watches a run.
 #[derive(Drop)]

@@ -1,5 +1,5 @@
 //! The words of the command line.
-use rdlpp::{Invocation, UsageFault, parse_words};
+use rdlpp_words::{Invocation, UsageFault, parse_words};
 use std::env;
 use std::io::ErrorKind;
 use std::rt::Env;

@@ -4,7 +4,8 @@ use crate::pieces::has_its_pieces;
 use crate::renewed::comes_to_the_same_behind;
 use crate::row::Row;
 use crate::runs::{Ended, Job, preprocess_row, run_row};
-use rdlpp::{FaultKind, Invocation, UsageFault, parse_words};
+use rdlpp::FaultKind;
+use rdlpp_words::{Invocation, UsageFault, parse_words};
 use std::alloc::{AllocError, Global};
 
 // The most bytes of the texts of a row that is cut, and whose devices fail at each place.

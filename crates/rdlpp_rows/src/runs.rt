@@ -1,10 +1,9 @@
 // Runs of a row over devices, and what they come to.
 use crate::devices::{DealtTexts, DealtWriter, Devices, WHOLE};
 use crate::row::Row;
-use rdlpp::{
-    Counted, Fault, FaultKind, Invocation, PrepFault, RunFault, Texts, preprocess, report,
-};
+use rdlpp::{Counted, Fault, FaultKind, PrepFault, RunFault, Texts, preprocess, report};
 use rdlpp_expand::{Engine, Piece, run};
+use rdlpp_words::Invocation;
 use std::alloc::{AllocError, Global};
 
 /// A row with what its words ask for, and its texts as they are run.

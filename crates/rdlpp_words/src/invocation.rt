@@ -3,17 +3,15 @@ ghost use Rattle.std.specs.Prelude.{◌≡◌, ◌==◌, ◌||◌, IfOk};
 ghost use Rattle.std.specs.List.{before_first, after_first};
 ghost use Rattle.std.specs.Option.{is_some};
 ghost use Rattle.rdlpp_table.specs.Limits.{AreInRange};
-ghost use Rattle.rdlpp.specs.declared.invocation.UsageFault.TheVariants.{NoMemory};
+ghost use Rattle.rdlpp_words.specs.declared.invocation.UsageFault.TheVariants.{NoMemory};
 
-use crate::Options;
 use crate::command::{
     DEFINE, DEFINITIONS, DEPS, FOLDER, LIMITS, LINE_MAP, NOTES, ORIGINS, OUTPUT, SOURCE,
     rdlpp_command,
 };
-use crate::reporting::limit_name;
 use clap::error::ErrorKind;
 use clap::{ArgMatches, Command, Error};
-use rdlpp_table::Limits;
+use rdlpp::{Limits, Options, limit_name};
 use std::alloc::{AllocError, Global};
 
 /// What a command line asks for (this project's profile).
