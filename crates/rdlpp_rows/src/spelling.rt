@@ -34,18 +34,19 @@ pub fn spelled(alloc: Global, text: &str) -> Result<Vec<u8>, AllocError> {
 
 /// A text with each `{#}` and `{+}` in it counted: this number, and the next one.
 pub fn numbered(alloc: Global, text: &str, number: u32) -> Result<String, AllocError> {
+    let counted = with_number(alloc, text, "{#}", number)?;
+    with_number(alloc, counted.as_str(), "{+}", number.saturating_add(1))
+}
+
+// A text with a number in the place of each mark in it.
+fn with_number(alloc: Global, text: &str, mark: &str, number: u32) -> Result<String, AllocError> {
+    let shown = format!(in alloc; "{number}")?;
     let mut whole = String::new(alloc);
-    for (place, part) in text.split("{#}").enumerate() {
+    for (place, part) in text.split(mark).enumerate() {
         if place > 0 {
-            whole.push_str(format!(in alloc; "{number}")?.as_str())?;
+            whole.push_str(shown.as_str())?;
         }
-        for (place, part) in part.split("{+}").enumerate() {
-            if place > 0 {
-                let next = number.saturating_add(1);
-                whole.push_str(format!(in alloc; "{next}")?.as_str())?;
-            }
-            whole.push_str(part)?;
-        }
+        whole.push_str(part)?;
     }
     Ok(whole)
 }
