@@ -95,17 +95,25 @@ fn holds_what_it_wants(engine: &Engine<DealtTexts<'_>>, job: &Job<'_>) -> bool {
 // Whether what is held is within what the limits allow.
 fn is_within(held: &Held, limits: &Limits) -> bool {
     let texts = limits.includes.saturating_add(1);
-    let bound = limits
-        .definition_bytes
-        .saturating_add(limits.argument_bytes)
-        .saturating_add(texts.saturating_mul(limits.line_bytes));
-    let whole = held
-        .definitions
-        .saturating_add(held.arguments)
-        .saturating_add(held.buffers);
-    whole <= bound
+    let most_bindings = limits.depth.saturating_mul(255);
+    bytes_held(held) <= most_bytes(limits, texts)
         && held.cursors <= limits.depth
-        && held.bindings <= limits.depth.saturating_mul(255)
+        && held.bindings <= most_bindings
         && held.conditions <= limits.conditions
         && held.sources <= texts
+}
+
+// How many bytes are held.
+fn bytes_held(held: &Held) -> usize {
+    held.definitions
+        .saturating_add(held.arguments)
+        .saturating_add(held.buffers)
+}
+
+// How many bytes the limits allow, with so many open texts.
+fn most_bytes(limits: &Limits, texts: usize) -> usize {
+    limits
+        .definition_bytes
+        .saturating_add(limits.argument_bytes)
+        .saturating_add(texts.saturating_mul(limits.line_bytes))
 }

@@ -44,46 +44,60 @@ pub fn comes_to_the_same_behind<'a>(
 ) -> Result<bool, AllocError> {
     let is_defined = engine_of(alloc, job, WHOLE)?.is_some();
     for ending in &ENDINGS {
-        let mut engine = ended_engine(alloc, before, job, *ending)?;
-        let options = &job.invocation.options;
-        let _before = engine.renew(sources_of(job, WHOLE), options.origins);
-        if engine.held() != NOTHING_HELD || define_words(&mut engine, job) != is_defined {
+        if !comes_to_the_same_after(alloc, before, *ending, job, is_defined)? {
             return Ok(false);
-        }
-        if is_defined {
-            match run_engine(alloc, &mut engine, job, WHOLE)? {
-                Some(ended) if ended.is_wanted(job.row) => {}
-                _ => return Ok(false),
-            }
         }
     }
     Ok(true)
 }
 
-// An engine by the limits of a row, in which the row before it ended.
-fn ended_engine<'a>(
+// The same for one way to end.
+fn comes_to_the_same_after<'a>(
     alloc: Global,
     before: &Job<'a>,
-    job: &Job<'a>,
     ending: Ending,
-) -> Result<Engine<DealtTexts<'a>>, AllocError> {
-    let limits = job.invocation.options.limits;
-    let origins = before.invocation.options.origins;
+    job: &Job<'a>,
+    is_defined: bool,
+) -> Result<bool, AllocError> {
     let devices = match ending {
         Ending::Run(devices) => devices,
         Ending::Pieces(_) => WHOLE,
     };
-    let Ok(mut engine) = Engine::new(alloc, limits, sources_of(before, devices), origins) else {
-        return Err(AllocError);
-    };
-    let _defined = define_words(&mut engine, before);
+    let sources = sources_of(before, devices);
+    let limits = job.invocation.options.limits;
+    match Engine::new(alloc, limits, sources, before.invocation.options.origins) {
+        Ok(mut engine) => comes_to_the_same_in(alloc, &mut engine, before, ending, job, is_defined),
+        Err(_) => Err(AllocError),
+    }
+}
+
+// Whether a row comes to what it wants in an engine of which nothing was asked yet, where another row ends in it before.
+fn comes_to_the_same_in<'a>(
+    alloc: Global,
+    engine: &mut Engine<DealtTexts<'a>>,
+    before: &Job<'a>,
+    ending: Ending,
+    job: &Job<'a>,
+    is_defined: bool,
+) -> Result<bool, AllocError> {
+    let _defined = define_words(engine, before);
     match ending {
         Ending::Run(devices) => {
-            let _ended = run_engine(alloc, &mut engine, before, devices)?;
+            let _ended = run_engine(alloc, engine, before, devices)?;
         }
-        Ending::Pieces(count) => pull(&mut engine, before, count),
+        Ending::Pieces(count) => pull(engine, before, count),
     }
-    Ok(engine)
+    let _before = engine.renew(sources_of(job, WHOLE), job.invocation.options.origins);
+    if engine.held() != NOTHING_HELD || define_words(engine, job) != is_defined {
+        return Ok(false);
+    }
+    if !is_defined {
+        return Ok(true);
+    }
+    match run_engine(alloc, engine, job, WHOLE)? {
+        Some(ended) => Ok(ended.is_wanted(job.row)),
+        None => Ok(false),
+    }
 }
 
 // Starts an engine with the main text of a row, and pulls so many pieces.
