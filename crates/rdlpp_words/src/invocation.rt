@@ -87,21 +87,31 @@ pub fn parse_words<'w>(alloc: Global, words: &'w [&'w str]) -> Result<Invocation
     ensures { IfOk result (λ invocation. AreInRange invocation.options.limits) }
 {
     let mut command = rdlpp_command(alloc)?;
-    let matches = match command.try_get_matches_from_mut(words) {
-        Ok(matches) => matches,
-        Err(error) => return Err(usage_fault(alloc, &error)),
-    };
+    match command.try_get_matches_from_mut(words) {
+        Ok(matches) => read_matches(alloc, &mut command, &matches),
+        Err(error) => Err(usage_fault(alloc, &error)),
+    }
+}
+
+// What the matches of a command line ask for.
+fn read_matches(
+    alloc: Global,
+    command: &mut Command<'_>,
+    matches: &ArgMatches<'_>,
+) -> Result<Invocation, UsageFault>
+    ensures { IfOk result (λ invocation. AreInRange invocation.options.limits) }
+{
     for (name, _) in LIMITS {
         if matches.get_str(name).unwrap_or("").starts_with('+') {
-            return Err(refusal(alloc, &mut command, "a limit is a number without a sign"));
+            return Err(refusal(alloc, command, "a limit is a number without a sign"));
         }
     }
-    let limits = limits_of(&matches);
+    let limits = limits_of(matches);
     if let Err(limit) = limits.check() {
         let message = format!(in alloc; "limit {} out of range", limit_name(limit))?;
-        return Err(refusal(alloc, &mut command, message.as_str()));
+        return Err(refusal(alloc, command, message.as_str()));
     }
-    Ok(asked_for(alloc, &matches, limits)?)
+    Ok(asked_for(alloc, matches, limits)?)
 }
 
 // The fault of words that give no matches.
@@ -158,26 +168,35 @@ fn asked_for(
 ) -> Result<Invocation, AllocError>
     ensures { IfOk result (λ invocation. invocation.options.limits ≡ limits) }
 {
-    let options = Options {
-        defines: definitions(alloc, matches)?,
-        limits,
-        origins: matches.get_flag(ORIGINS),
-    };
+    Ok(Invocation {
+        options: Options {
+            defines: definitions(alloc, matches)?,
+            limits,
+            origins: matches.get_flag(ORIGINS),
+        },
+        folders: folders_of(alloc, matches)?,
+        output: file(alloc, matches, OUTPUT)?,
+        source: String::from_str(alloc, matches.get_str(SOURCE).unwrap_or(""))?,
+        reports: reports_of(alloc, matches)?,
+    })
+}
+
+// The include folders, in order.
+fn folders_of(alloc: Global, matches: &ArgMatches<'_>) -> Result<Vec<String>, AllocError> {
     let mut folders = Vec::new(alloc);
     for folder in matches.get_strs(FOLDER).unwrap_or(&[]) {
         folders.push(String::from_str(alloc, folder)?)?;
     }
-    Ok(Invocation {
-        options,
-        folders,
-        output: file(alloc, matches, OUTPUT)?,
-        source: String::from_str(alloc, matches.get_str(SOURCE).unwrap_or(""))?,
-        reports: Reports {
-            line_map: file(alloc, matches, LINE_MAP)?,
-            deps: file(alloc, matches, DEPS)?,
-            definitions: file(alloc, matches, DEFINITIONS)?,
-            notes: matches.get_flag(NOTES),
-        },
+    Ok(folders)
+}
+
+// What is to be told beside the text.
+fn reports_of(alloc: Global, matches: &ArgMatches<'_>) -> Result<Reports, AllocError> {
+    Ok(Reports {
+        line_map: file(alloc, matches, LINE_MAP)?,
+        deps: file(alloc, matches, DEPS)?,
+        definitions: file(alloc, matches, DEFINITIONS)?,
+        notes: matches.get_flag(NOTES),
     })
 }
 
