@@ -114,15 +114,16 @@ pub fn engine_of<'a>(
 /// Defines what the words of a row define, in an engine before its start, and answers whether none was refused.
 pub fn define_words(engine: &mut Engine<DealtTexts<'_>>, job: &Job<'_>) -> bool {
     for (name, text) in &job.invocation.options.defines {
-        let is_defined = engine.is_fresh()
-            && engine
-                .define(name.as_str().as_bytes(), text.as_str().as_bytes())
-                .is_ok();
-        if !is_defined {
+        if !define_word(engine, name.as_str(), text.as_str()) {
             return false;
         }
     }
     true
+}
+
+// Defines one macro in an engine before its start, and answers whether it wasn't refused.
+fn define_word(engine: &mut Engine<DealtTexts<'_>>, name: &str, text: &str) -> bool {
+    engine.is_fresh() && engine.define(name.as_bytes(), text.as_bytes()).is_ok()
 }
 
 /// Runs a row's engine, and asks again for its end; none where a definition of its words is refused.
