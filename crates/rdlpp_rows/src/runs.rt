@@ -123,10 +123,7 @@ pub fn define_words(engine: &mut Engine<DealtTexts<'_>>, job: &Job<'_>) -> bool 
 
 // Defines one macro in an engine before its start, and answers whether it wasn't refused.
 fn define_word(engine: &mut Engine<DealtTexts<'_>>, name: &str, text: &str) -> bool {
-    if !engine.is_fresh() {
-        return false;
-    }
-    engine.define(name.as_bytes(), text.as_bytes()).is_ok()
+    engine.is_fresh() && engine.define(name.as_bytes(), text.as_bytes()).is_ok()
 }
 
 /// Runs a row's engine, and asks again for its end; none where a definition of its words is refused.
