@@ -295,33 +295,22 @@ impl<S: Sources> Engine<S> {
             return Some(PieceLocation::Fault);
         }
         match self.phase {
-            Phase::Open => {
-                let place = self.step_open();
-                self.facts();
-                place
-            }
-            Phase::OverLimit => Some(self.record_output_fault()),
-            _ => Some(PieceLocation::End),
+            Phase::Open => {}
+            Phase::OverLimit => return Some(self.record_output_fault()),
+            _ => return Some(PieceLocation::End),
         }
-    }
-
-    // Takes one step over what is pending and the open sources.
-    #[inline(always)]
-    fn step_open(&mut self) -> Option<PieceLocation>
-        requires open { self.old.phase ≡ Phase.Open }
-        requires free { self.old.kept ≡ None }
-        requires outside { IsDrained self.old → self.old.expansion.opens ≡ [] }
-        ensures place { IfSome result (IsPlaced self.new) }
-        ensures uncut_step { IsBounded self.new → UncutStepWithin S.Sources 1 self.old self.new (step_answer self.new result) }
-    {
-        self.facts();
         if let Some(piece) = self.take_pending() {
+            self.facts();
             return Some(PieceLocation::Pending(piece));
         }
         if self.files.file().buffer.held().is_empty() {
-            return self.step_filled();
+            let place = self.step_filled();
+            self.facts();
+            return place;
         }
-        self.take_held()
+        let place = self.take_held();
+        self.facts();
+        place
     }
 
     // Sees to it that bytes of the innermost source are held, and takes one step over them; or ends that source, or refuses what breaks
@@ -332,7 +321,7 @@ impl<S: Sources> Engine<S> {
         ensures place { IfSome result (IsPlaced self.new) }
         ensures uncut_step { IsBounded self.new → UncutStepWithin S.Sources 1 self.old self.new (step_answer self.new result) }
     {
-        match self.fill() {
+        match self.files.fill(&mut self.sources) {
             Fill::Held => {
                 self.facts();
                 self.take_held()
@@ -535,17 +524,6 @@ impl<S: Sources> Engine<S> {
     {
         self.phase = Phase::Closed;
         self.files.leave();
-    }
-
-    // Sees to it that bytes of the innermost source are held, or tells why there are none.
-    fn fill(&mut self) -> Fill
-        requires { 0 < length self.old.files.include_stack }
-        ensures becomes { self.new ≡ record self.old { files = self.new.files; sources = self.new.sources } }
-        ensures only { self.new.files ≡ record self.old.files { include_stack = with_buffer (inner_buffer self.new.files.include_stack) self.old.files.include_stack } }
-        ensures fills { Fills (S.has_known_texts self.old.sources) S.unread result (inner_buffer self.old.files.include_stack) (inner_buffer self.new.files.include_stack) }
-        ensures call { SourcesRead S.Sources (is_failed result) self.old.sources self.new.sources }
-    {
-        self.files.fill(&mut self.sources)
     }
 
     // Takes in the logical line at the front of what is held of the innermost source.

@@ -1,10 +1,11 @@
 // Runs: the output, written to a sink.
 ghost use Rattle.std.specs.Prelude.{[], ◌≡◌, true, ◌↔◌, ◌≤◌, if◌then◌else◌, IsTrue, None, Some, length, take, false, not};
-ghost use Rattle.std.specs.Io.KnownBytes.{Appends};
+ghost use Rattle.std.specs.Io.KnownBytes.{Appends, Keeps};
 ghost use Rattle.rdlpp_source.specs.Counts.{Counts};
 ghost use Rattle.rdlpp_expand.specs.Run.{Flushes, Pulls, Runs, Unflushed, Wrote, count_of, fault_of};
 ghost use Rattle.rdlpp_expand.specs.Texts.{IsInTexts};
 ghost use Rattle.rdlpp_expand.specs.Watching.{Shows};
+ghost use Rattle.rdlpp_state.specs.Engine.{EngineView};
 ghost use Rattle.rdlpp_state.specs.Moves.{IsDrained};
 ghost use Rattle.rdlpp_state.specs.Steps.{IsStarted};
 
@@ -54,7 +55,42 @@ pub fn run_watched<S: Sources, W: Sink, V: Watcher>(
     ensures runs { Runs S.Sources W.Sink engine.old engine.new writer.old writer.new (count_of result) (fault_of result) }
     ensures shows { Shows W.Sink V.Watcher writer.old writer.new watcher.old watcher.new }
 {
-    let Output { written, ending } = write_output(engine, writer, watcher);
+    // Open texts, which may write millions of short pieces, have a branch of their own: after a piece of one of them it is known
+    // that the next step is one over open texts too.
+    let mut written: u64 = 0;
+    let mut in_texts = engine.is_in_texts();
+    loop {
+        if in_texts {
+            let pulled = pull_text(engine, writer, watcher);
+            written = written.saturating_add(pulled.len as u64);
+            if let Some(ending) = pulled.ending {
+                return finish(engine, writer, written, ending);
+            }
+            in_texts = pulled.in_texts;
+        } else {
+            let pulled = pull(engine, writer, watcher);
+            written = written.saturating_add(pulled.len as u64);
+            if let Some(ending) = pulled.ending {
+                return finish(engine, writer, written, ending);
+            }
+            in_texts = engine.is_in_texts();
+        }
+    }
+}
+
+// Ends a run that wrote so many bytes: flushes the sink, unless a write failed, and answers the fault that the engine keeps, or how
+// many bytes the writer took.
+#[cold]
+#[inline(never)]
+fn finish<S: Sources, W: Sink>(
+    engine: &mut Engine<S>,
+    writer: &mut W,
+    written: u64,
+    ending: Ending,
+) -> Result<u64, RunFault>
+    ensures runs { (start : EngineView S S.Reader) → (empty : W) → Wrote S.Sources W.Sink start engine.old empty writer.old written (Some ending) → Runs S.Sources W.Sink start engine.new empty writer.new (count_of result) (fault_of result) }
+    ensures keeps { Keeps (W.taken writer.old) (W.taken writer.new) }
+{
     match ending {
         Ending::Finished => {
             if is_flushed(writer) {
@@ -120,13 +156,6 @@ struct TextPulled {
     len: usize,
     ending: Option<Ending>,
     in_texts: bool,
-}
-
-// What was written of the output: how many bytes, up to `u64::MAX`, and how the output ended.
-#[derive(Clone, Copy)]
-struct Output {
-    written: u64,
-    ending: Ending,
 }
 
 // Flushes a sink, and answers whether it could.
@@ -374,37 +403,5 @@ fn pull_text<S: Sources, W: Sink, V: Watcher>(
             ending: Some(Ending::Stopped),
             in_texts: false,
         },
-    }
-}
-
-// Writes the output piece by piece, until it ends. Open texts, which may write millions of short pieces, have a branch of their
-// own: behind a piece of one of them it is known that the next step is one over open texts too.
-fn write_output<S: Sources, W: Sink, V: Watcher>(
-    engine: &mut Engine<S>,
-    writer: &mut W,
-    watcher: &mut V,
-) -> Output
-    requires { IsStarted engine.old }
-    ensures wrote { Wrote S.Sources W.Sink engine.old engine.new writer.old writer.new result.written (Some result.ending) }
-    ensures shows { Shows W.Sink V.Watcher writer.old writer.new watcher.old watcher.new }
-{
-    let mut written: u64 = 0;
-    let mut in_texts = engine.is_in_texts();
-    loop {
-        if in_texts {
-            let pulled = pull_text(engine, writer, watcher);
-            written = written.saturating_add(pulled.len as u64);
-            if let Some(ending) = pulled.ending {
-                return Output { written, ending };
-            }
-            in_texts = pulled.in_texts;
-        } else {
-            let pulled = pull(engine, writer, watcher);
-            written = written.saturating_add(pulled.len as u64);
-            if let Some(ending) = pulled.ending {
-                return Output { written, ending };
-            }
-            in_texts = engine.is_in_texts();
-        }
     }
 }

@@ -1,7 +1,7 @@
 -- The tokens that remain of an open source, as its window moves, and as sources open and close.
-use Rattle.std.proofs.Common.{◌≡◌, ℕ, ◌+◌, List, [], ◌++◌, length, take, drop, refl, sym, ap, ◌∙◌, append_assoc, arith, ◌-◌, ◌≤◌, ◌<◌, None, Some, subst, inl, inr, suc, ◌*◌, ◌^◌, Bool, not, ◌∷◌, map, reverse, sum_by, get_or, add-one, All, length-set, set, mul-le-mul_right, append-nil, drop-drop, length-append, length-drop, length-take-le, take-append-drop, take-take}
+use Rattle.std.proofs.Common.{◌≡◌, ◌==◌, true, ℕ, ◌+◌, List, [], ◌++◌, length, take, drop, refl, sym, ap, ◌∙◌, append_assoc, arith, ◌-◌, ◌≤◌, ◌<◌, None, Some, subst, inl, inr, suc, ◌*◌, ◌^◌, Bool, not, ◌∷◌, map, reverse, sum_by, get_or, add-one, All, length-set, set, mul-le-mul_right, append-nil, drop-drop, length-append, length-drop, length-take-le, take-append-drop, take-take}
 use Rattle.std.proofs.Math.Seq.{drop-nil}
-use Rattle.std.proofs.lemmas.List.{drop-set, drop-take, reverse-append, take-set, take_more_set}
+use Rattle.std.proofs.lemmas.List.{drop-set, drop-take, get_or-drop, reverse-append, take-set, take_more_set}
 use Rattle.std.proofs.lemmas.List.Elements.{All-append, All-cons, All-drop, All-get_or, All-head, All-nil, All-same, All-set, All-tail, All-take}
 use Rattle.std.proofs.lemmas.List.Sums.{sum_by-append, sum_by-cons, sum_by_more_le}
 use Rattle.rdlpp_scan.specs.Bytes.{is_line_end}
@@ -13,7 +13,7 @@ use Rattle.rdlpp_scan.specs.declared.token.Mode.TheVariants.{Plain}
 use Rattle.rdlpp_scan.proofs.SourceLaws.{IsWholeLines-drop, front-line_long, front-none, front-source_long}
 use Rattle.rdlpp_scan.proofs.RemainingLaws.{remaining-accept}
 use Rattle.rdlpp_read.specs.Buffer.{BufferView, EndsHeld, Gains, MovesOver, Slides, ahead_of, closed_buffer, entered_mode, held_of, rest_of, text_left, tokens_left, unread_of, unused_of}
-use Rattle.rdlpp_read.specs.Files.{AreOpen, AreSlots, FilesView, IsClosed, IsSlot, held_bytes, held_windows, source_digits, ends_mid_line_after}
+use Rattle.rdlpp_read.specs.Files.{AreOpen, AreSlots, FilesView, IsClosed, IsSlot, held_bytes, held_windows, inner_buffer, source_digits, ends_mid_line_after}
 use Rattle.rdlpp_read.specs.Filling.{Fills, Grows, GrowsBy, HasBytes, IsExact, Lengthens, Stays, TellsTokens, ended_tokens, only_broken}
 use Rattle.rdlpp_read.specs.declared.buffer.filling.Fill.{Fill}
 use Rattle.rdlpp_read.specs.declared.buffer.filling.Fill.TheVariants.{End, Failed, Held, LineLong, SourceLong}
@@ -265,9 +265,8 @@ pub grows-fills : {R : Type 0} (has_known_texts : Type 0) (unread : R → List �
 grows-fills has_known_texts unread fill old new none g = search (arith, grows-bytes, grows-short, grows-text, grows-ended, grows-tokens)
 
 -- bytes of accepted lines are held
-pub held-fills : {R : Type 0} (has_known_texts : Type 0) (unread : R → List ℕ) (f : BufferView R) → f.at < f.accepted → f.accepted ≤ length f.window → Fills has_known_texts unread Held f f
-unfolding held_of
-held-fills has_known_texts unread f some inside = grind (arith, length-drop, length-take-le, slides-same)
+pub held-fills : {R : Type 0} (has_known_texts : Type 0) (unread : R → List ℕ) (f : BufferView R) → 0 < length (held_of f) → Fills has_known_texts unread Held f f
+held-fills has_known_texts unread f some = grind (arith, slides-same)
 
 -- where the end of a text was met, nothing was left of it before
 pub ended-text : {R : Type 0} (has_known_texts : Type 0) (unread : R → List ℕ) (old new : BufferView R) → Fills has_known_texts unread End old new → has_known_texts → text_left unread old ≡ []
@@ -317,6 +316,24 @@ slots-left size first slots f more s slot closed = record {
 -- some slot is open
 pub some-open : {R : Type 0} (first : ℕ) (slots : List (File R)) → 0 < length (drop first slots) → first < length slots
 some-open first slots some = omega (arith, length-drop first slots)
+
+-- bytes of which there are none
+pub none-held : (bytes : List ℕ) → (length bytes == 0) ≡ true → bytes ≡ []
+none-held [] none = refl
+none-held (b ∷ bytes) none = grind arith
+
+-- the buffer of the innermost source, by its slot
+inner-first : {R : Type 0} (include_stack : List (File R)) (f : File R) → 0 < length include_stack → f ≡ get_or include_stack 0 f → inner_buffer include_stack ≡ f.buffer
+inner-first [] f some is = absurd (omega (arith, some))
+inner-first (x ∷ outer) f some is = sym (ap (λ f. f.buffer) is)
+
+-- the same, where it stands among others
+pub inner-slot : {R : Type 0} (first : ℕ) (slots : List (File R)) (f : File R) → 0 < length (drop first slots) → f ≡ get_or slots first f → inner_buffer (drop first slots) ≡ f.buffer
+inner-slot first slots f some is = inner-first (drop first slots) f some (grind (arith, get_or-drop first slots 0 f))
+
+-- the same, where another source was put in the slot
+pub inner-set : {R : Type 0} (first : ℕ) (slots : List (File R)) (f : File R) → 0 < length (drop first slots) → inner_buffer (drop first (set slots first f)) ≡ f.buffer
+inner-set first slots f some = ap inner_buffer (drop-set slots first f (some-open first slots some))
 
 -- the innermost slot
 pub slot-inner : {R : Type 0} (size first : ℕ) (slots : List (File R)) (f : File R) → AreSlots size first slots → 0 < length (drop first slots) → f ≡ get_or slots first f → IsSlot size f

@@ -7,7 +7,8 @@ mod extending;
 mod filling;
 
 pub use extending::{LogicalLine, hold_logical_line};
-pub use filling::{Fill, fill_buffer, fill_room};
+pub(crate) use filling::take_lines;
+pub use filling::{Fill, fill_room};
 use rdlpp_scan::{Mode, line_ends_in};
 use std::alloc::{AllocError, Global};
 use std::marker::Model;
@@ -211,6 +212,7 @@ impl<R: Drop> SourceBuffer<R> {
 
     // Moves what isn't used to the front.
     fn compact(&mut self)
+        ensures before { IsBuffer self.old }
         ensures sound { IsBuffer self.new }
         ensures becomes { self.new ≡ record self.old { window = drop self.old.at self.old.window; at = 0; accepted = self.old.accepted - self.old.at } }
     {

@@ -18,7 +18,7 @@ ghost use Rattle.rdlpp_read.specs.Files.{
 };
 
 use crate::blanks::only_blanks;
-use crate::buffer::{Fill, LogicalLine, SourceBuffer, fill_buffer, hold_logical_line};
+use crate::buffer::{Fill, LogicalLine, SourceBuffer, hold_logical_line, take_lines};
 use arrayvec::ArrayString;
 use rdlpp_scan::Mode;
 use rdlpp_source::{Found, Sources};
@@ -232,16 +232,26 @@ impl<R: Drop> Files<R> {
         }
     }
 
-    /// Fills the buffer of the innermost source, as `fill_buffer` does.
+    /// Fills the buffer of the innermost source with at least one whole line within the limits, where no byte is held, or tells
+    /// why there is none: the end of the text, a line that breaks it, or a read that failed, after which nothing is lost. Reads
+    /// only where no byte is held.
+    ///
+    /// # Rules
+    ///
+    /// A line has at most as many bytes as the buffer, with its LF, and all lines of a source together at
+    /// most as many as it was opened with; the last line needs no LF (this project's profile).
     pub fn fill<S: Sources<Reader = R>>(&mut self, sources: &mut S) -> Fill
         requires { 0 < length self.old.include_stack }
         ensures only { self.new ≡ record self.old { include_stack = with_buffer (inner_buffer self.new.include_stack) self.old.include_stack } }
         ensures fills { Fills (S.has_known_texts sources.old) S.unread result (inner_buffer self.old.include_stack) (inner_buffer self.new.include_stack) }
         ensures call { SourcesRead S.Sources (is_failed result) sources.old sources.new }
     {
+        if !self.file().buffer.held().is_empty() {
+            return Fill::Held;
+        }
         let at = self.first;
         let buffer = &mut self.slots[at].buffer;
-        let fill = fill_buffer(buffer, sources);
+        let fill = take_lines(buffer, sources);
         buffer.facts();
         fill
     }

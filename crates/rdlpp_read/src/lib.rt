@@ -5,5 +5,5 @@ mod blanks;
 mod buffer;
 mod files;
 
-pub use buffer::{Fill, LogicalLine, SourceBuffer, fill_buffer, fill_room, hold_logical_line};
+pub use buffer::{Fill, LogicalLine, SourceBuffer, fill_room, hold_logical_line};
 pub use files::{File, Files, Shift};

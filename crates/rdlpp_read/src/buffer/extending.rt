@@ -47,7 +47,6 @@ pub fn hold_logical_line<S: Sources>(
             return LogicalLine::Whole(seen + len);
         }
         seen = held.len();
-        buffer.compact();
         match take_lines(buffer, sources) {
             Fill::Held => {}
             Fill::End => return LogicalLine::Whole(seen),

@@ -53,27 +53,6 @@ impl<R: Drop> SourceBuffer<R> {
     }
 }
 
-/// Fills the buffer with at least one whole line within the limits, where no byte is held, or tells
-/// why there is none: the end of the text, a line that breaks it, or a read that failed, after which
-/// nothing is lost. Reads only where no byte is held.
-///
-/// # Rules
-///
-/// A line has at most as many bytes as the buffer, with its LF, and all lines of a source together at
-/// most as many as it was opened with; the last line needs no LF (this project's profile).
-pub fn fill_buffer<S: Sources>(buffer: &mut SourceBuffer<S::Reader>, sources: &mut S) -> Fill
-    requires { EndsHeld buffer.old }
-    ensures ends { EndsHeld buffer.new }
-    ensures fills { Fills (S.has_known_texts sources.old) S.unread result buffer.old buffer.new }
-    ensures call { SourcesRead S.Sources (is_failed result) sources.old sources.new }
-{
-    if buffer.at < buffer.accepted {
-        return Fill::Held;
-    }
-    buffer.compact();
-    take_lines(buffer, sources)
-}
-
 /// Fills the room of bytes with zeros, up to `len` bytes, in the memory that is reserved for them; bytes that are there stay.
 pub fn fill_room(bytes: &mut Vec<u8>, len: usize)
     requires reserved { len ≤ vec_capacity bytes.old }
@@ -128,13 +107,15 @@ fn read_into<S: Sources>(
     sources.read(reader, &mut buffer[filled..])
 }
 
-// Reads into the room behind the window.
+// Reads into the room behind the window, or tells that the line is too long.
 fn read_on<S: Sources>(buffer: &mut SourceBuffer<S::Reader>, sources: &mut S) -> Option<Fill>
-    requires open { IsSome buffer.old.reader }
-    requires bytes_left { length buffer.old.window < buffer.old.line_bytes }
+    requires { IsSome buffer.old.reader }
     ensures turn { Turns (S.has_known_texts sources.old) S.unread result buffer.old buffer.new }
     ensures call { SourcesRead S.Sources (is_failed_turn result) sources.old sources.new }
 {
+    if buffer.filled >= buffer.line_bytes {
+        return probe_end(buffer, sources);
+    }
     let mut reader = buffer.reader.take().unwrap();
     make_room(&mut buffer.bytes, buffer.filled, buffer.line_bytes);
     match read_into(sources, &mut reader, &mut buffer.bytes, buffer.filled) {
@@ -174,35 +155,22 @@ fn probe_end<S: Sources>(buffer: &mut SourceBuffer<S::Reader>, sources: &mut S) 
     }
 }
 
-// Reads on, or tells that the line is too long.
-fn read_more<S: Sources>(buffer: &mut SourceBuffer<S::Reader>, sources: &mut S) -> Option<Fill>
-    requires { IsSome buffer.old.reader }
-    ensures turn { Turns (S.has_known_texts sources.old) S.unread result buffer.old buffer.new }
-    ensures call { SourcesRead S.Sources (is_failed_turn result) sources.old sources.new }
-{
-    if buffer.filled < buffer.line_bytes {
-        read_on(buffer, sources)
-    } else {
-        probe_end(buffer, sources)
-    }
-}
-
-// Accepts lines behind those that are held, and reads on until there are some, or tells why there are none.
-pub(super) fn take_lines<S: Sources>(buffer: &mut SourceBuffer<S::Reader>, sources: &mut S) -> Fill
-    requires compact { buffer.old.at ≡ 0 }
-    requires sound { IsBuffer buffer.old }
-    requires ends { EndsHeld buffer.old }
+// Moves what isn't used to the front, accepts lines behind those that are held, and reads on until there are some, or tells why
+// there are none.
+pub(crate) fn take_lines<S: Sources>(buffer: &mut SourceBuffer<S::Reader>, sources: &mut S) -> Fill
+    requires { EndsHeld buffer.old }
     ensures ends { EndsHeld buffer.new }
     ensures grows { Grows (S.has_known_texts sources.old) S.unread result buffer.old buffer.new }
     ensures call { SourcesRead S.Sources (is_failed result) sources.old sources.new }
 {
+    buffer.compact();
     let mut seen = 0;
     'reading: loop {
         if let Some(fill) = buffer.accept(seen) {
             return fill;
         }
         seen = buffer.ahead().len();
-        if let Some(fill) = read_more(buffer, sources) {
+        if let Some(fill) = read_on(buffer, sources) {
             return fill;
         }
     }

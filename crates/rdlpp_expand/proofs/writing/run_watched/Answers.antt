@@ -1,43 +1,48 @@
-use Rattle.std.proofs.Common.{false, true, not, Some, refl, sym, ap}
-use Rattle.rdlpp_expand.proofs.RunFacts.{flushes_as, runs_broken, runs_stopped, runs_unchanged, runs_unflushed, runs_whole, shows_kept, wrote_at}
+use Rattle.std.proofs.Common.{sym}
+use Rattle.rdlpp_expand.proofs.RunFacts.{shows_kept, shows_more, shows_none, wrote_at, wrote_more, wrote_none}
 use Rattle.rdlpp_expand.proofs.writing.run_watched.Goals as goal
 
-pub returns-then-is_flushed-clause-runs : goal.returns-then-is_flushed-clause-runs
-returns-then-is_flushed-clause-runs g c =
-    runs_whole g.S.Sources g.W.Sink _ _ _ _ _ _
-    (wrote_at g.S.Sources g.W.Sink _ _ _ _ _ _ _ _ c.write_output-written.ensures.wrote refl (ap Some (sym c.in-Finished.is)))
-    (flushes_as g.W.Sink _ false _ _ (ap not c.if-is_flushed.true) c.is_flushed.ensures)
+pub loop-in_texts-init : goal.loop-in_texts-init
+loop-in_texts-init g c = (wrote_none g.S.Sources g.W.Sink _ _ c.requires, c.is_in_texts-in_texts.ensures, shows_none g.W.Sink g.V.Watcher _ _)
 
-pub returns-else-is_flushed-clause-runs : goal.returns-else-is_flushed-clause-runs
-returns-else-is_flushed-clause-runs g c =
-    runs_unflushed g.S.Sources g.W.Sink _ _ _ _ _ _ _ _
-    (wrote_at g.S.Sources g.W.Sink _ _ _ _ _ _ _ _ c.write_output-written.ensures.wrote c.outcome.ensures.count (ap Some (sym c.in-Finished.is)))
-    (flushes_as g.W.Sink _ true _ _ (ap not c.if-is_flushed.false) c.is_flushed.ensures)
-    c.record_write_fault.ensures c.outcome.ensures.fault
+pub returns-in-Some-clause-runs : goal.returns-in-Some-clause-runs
+returns-in-Some-clause-runs g c =
+    c.finish.ensures.runs _ _
+    (wrote_at g.S.Sources g.W.Sink _ _ _ _ _ _ _ _
+    (wrote_more g.S.Sources g.W.Sink _ _ _ _ _ _ _ _ _ c.loop-in_texts.invariant.0 c.pull_text-pulled.ensures.pulls)
+    c.saturating_add-written.ensures
+    (sym c.in-Some.is))
 
-pub returns-then-keeps_write_failure-clause-runs : goal.returns-then-keeps_write_failure-clause-runs
-returns-then-keeps_write_failure-clause-runs g c =
-    runs_unchanged g.S.Sources g.W.Sink _ _ _ _ _ _ _
-    (wrote_at g.S.Sources g.W.Sink _ _ _ _ _ _ _ _ c.write_output-written.ensures.wrote c.outcome-then-keeps_write_failure.ensures.count (ap Some (sym c.in-Stopped.is)))
-    c.outcome-then-keeps_write_failure.ensures.fault c.keeps_write_failure.ensures c.if-keeps_write_failure.true
+pub returns-in-Some-clause-shows : goal.returns-in-Some-clause-shows
+returns-in-Some-clause-shows g c = shows_kept g.W.Sink g.V.Watcher _ _ _ _ _ (shows_more g.W.Sink g.V.Watcher _ _ _ _ _ _ c.loop-in_texts.invariant.2 c.pull_text-pulled.ensures.shows) c.finish.ensures.keeps
 
-pub returns-else-keeps_write_failure-clause-runs : goal.returns-else-keeps_write_failure-clause-runs
-returns-else-keeps_write_failure-clause-runs g c =
-    runs_stopped g.S.Sources g.W.Sink _ _ _ _ _ _
-    (wrote_at g.S.Sources g.W.Sink _ _ _ _ _ _ _ _ c.write_output-written.ensures.wrote c.outcome-in-Stopped.ensures.count (ap Some (sym c.in-Stopped.is)))
-    _ _ _ c.outcome-in-Stopped.ensures.fault c.is_flushed-flushed.ensures c.keeps_write_failure.ensures c.if-keeps_write_failure.false
+pub loop-in_texts-preserved-then-in_texts : goal.loop-in_texts-preserved-then-in_texts
+loop-in_texts-preserved-then-in_texts g c = (
+  wrote_at g.S.Sources g.W.Sink _ _ _ _ _ _ _ _
+      (wrote_more g.S.Sources g.W.Sink _ _ _ _ _ _ _ _ _ c.loop-in_texts.invariant.0 c.pull_text-pulled.ensures.pulls)
+      c.saturating_add-written.ensures
+      (sym c.in_default.is),
+  c.pull_text-pulled.ensures.next c.in_default.is,
+  shows_more g.W.Sink g.V.Watcher _ _ _ _ _ _ c.loop-in_texts.invariant.2 c.pull_text-pulled.ensures.shows,
+)
 
-pub returns-in-Unwritten-clause-runs : goal.returns-in-Unwritten-clause-runs
-returns-in-Unwritten-clause-runs g c =
-    runs_broken g.S.Sources g.W.Sink _ _ _ _ _ _ _
-    (wrote_at g.S.Sources g.W.Sink _ _ _ _ _ _ _ _ c.write_output-written.ensures.wrote c.outcome-in-Unwritten.ensures.count (ap Some (sym c.in-Unwritten.is)))
-    c.record_write_fault-in-Unwritten.ensures c.outcome-in-Unwritten.ensures.fault
+pub returns-in-Some-ending-clause-runs : goal.returns-in-Some-ending-clause-runs
+returns-in-Some-ending-clause-runs g c =
+    c.finish-in-Some-ending.ensures.runs _ _
+    (wrote_at g.S.Sources g.W.Sink _ _ _ _ _ _ _ _
+    (wrote_more g.S.Sources g.W.Sink _ _ _ _ _ _ _ _ _ c.loop-in_texts.invariant.0 c.pull-pulled.ensures.pulls)
+    c.saturating_add-written-else-in_texts.ensures
+    (sym c.in-Some-ending.is))
 
-pub returns-then-is_flushed-clause-shows : goal.returns-then-is_flushed-clause-shows
-returns-then-is_flushed-clause-shows g c = shows_kept g.W.Sink g.V.Watcher _ _ _ _ _ c.write_output-written.ensures.shows c.is_flushed.ensures.bytes
+pub returns-in-Some-ending-clause-shows : goal.returns-in-Some-ending-clause-shows
+returns-in-Some-ending-clause-shows g c = shows_kept g.W.Sink g.V.Watcher _ _ _ _ _ (shows_more g.W.Sink g.V.Watcher _ _ _ _ _ _ c.loop-in_texts.invariant.2 c.pull-pulled.ensures.shows) c.finish-in-Some-ending.ensures.keeps
 
-pub returns-else-is_flushed-clause-shows : goal.returns-else-is_flushed-clause-shows
-returns-else-is_flushed-clause-shows g c = shows_kept g.W.Sink g.V.Watcher _ _ _ _ _ c.write_output-written.ensures.shows c.is_flushed.ensures.bytes
-
-pub returns-else-keeps_write_failure-clause-shows : goal.returns-else-keeps_write_failure-clause-shows
-returns-else-keeps_write_failure-clause-shows g c = shows_kept g.W.Sink g.V.Watcher _ _ _ _ _ c.write_output-written.ensures.shows c.is_flushed-flushed.ensures.bytes
+pub loop-in_texts-preserved : goal.loop-in_texts-preserved
+loop-in_texts-preserved g c = (
+  wrote_at g.S.Sources g.W.Sink _ _ _ _ _ _ _ _
+      (wrote_more g.S.Sources g.W.Sink _ _ _ _ _ _ _ _ _ c.loop-in_texts.invariant.0 c.pull-pulled.ensures.pulls)
+      c.saturating_add-written-else-in_texts.ensures
+      (sym c.in_default-ending.is),
+  c.is_in_texts-in_texts-else-in_texts.ensures,
+  shows_more g.W.Sink g.V.Watcher _ _ _ _ _ _ c.loop-in_texts.invariant.2 c.pull-pulled.ensures.shows,
+)

@@ -10,7 +10,6 @@ returns-in-Ok-eq0-clause-turn g c =
     let inside : filled ≤ vec_len c.buffer.inside.bytes = c.buffer.invariant.2 in
     let kept : take filled new ≡ take filled old = c.read_into.ensures.kept ∙ c.make_room.ensures.kept in
     let ended = c.take.ensures.after in
-    let bytes_left = rw (← c.buffer.view_is) at c.requires.bytes_left in
     let whole : filled ≤ length old = search rules in
     let size : length new ≡ vec_len c.read_into.new.buffer = search rules in
     let room : filled < vec_len c.make_room.new.bytes = c.make_room.ensures.room (omega (arith, length-take filled old)) in

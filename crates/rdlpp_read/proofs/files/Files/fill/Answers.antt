@@ -1,10 +1,16 @@
-use Rattle.std.proofs.Common.{◌∙◌}
+use Rattle.std.proofs.Common.{◌≡◌, ◌<◌, ◌∙◌, [], ap, length, sym, arith}
+use Rattle.rdlpp_read.specs.Buffer.{held_of}
 use Rattle.rdlpp_read.specs.Files.{IsSlot}
-use Rattle.rdlpp_read.proofs.BufferTokens.{slot-inner, slots-kept}
+use Rattle.rdlpp_read.proofs.BufferTokens.{grows-fills, held-fills, inner-set, inner-slot, none-held, slot-inner, slots-kept}
 use Rattle.rdlpp_read.proofs.files.Files.fill.Goals as goal
 
-pub fill_buffer-fill-requires : goal.fill_buffer-fill-requires
-fill_buffer-fill-requires g c =
+pub returns-then-not-is_empty-clause-fills : goal.returns-then-not-is_empty-clause-fills
+returns-then-not-is_empty-clause-fills g c =
+    let some : 0 < length (held_of c.file.result.now.buffer) = grind arith in
+    rw (← c.file.ensures.buffer) (held-fills _ _ _ some)
+
+pub take_lines-fill-requires : goal.take_lines-fill-requires
+take_lines-fill-requires g c =
     (slot-inner c.self.inside.line_bytes c.self.inside.first c.self.inside.slots.items c.index_mut.result.now c.self.invariant (rw (← c.self.view_is) at c.requires) c.index_mut.ensures.value).ends
 
 pub invariant_of-self : goal.invariant_of-self
@@ -12,4 +18,16 @@ invariant_of-self g c =
     let slot : IsSlot c.self.inside.line_bytes c.index_mut.result.now =
     slot-inner c.self.inside.line_bytes c.self.inside.first c.self.inside.slots.items c.index_mut.result.now c.self.invariant (rw (← c.self.view_is) at c.requires) c.index_mut.ensures.value in
     slots-kept c.self.inside.line_bytes c.self.inside.first c.self.inside.slots.items _ c.self.invariant
-    (record { buffer = c.facts.ensures; size = c.fill_buffer-fill.ensures.fills.line_bytes ∙ slot.size; ends = c.fill_buffer-fill.ensures.ends; number = slot.number })
+    (record { buffer = c.facts.ensures; size = c.take_lines-fill.ensures.grows.line_bytes ∙ slot.size; ends = c.take_lines-fill.ensures.ends; number = slot.number })
+
+pub returns-clause-fills : goal.returns-clause-fills
+returns-clause-fills g c =
+    let first = c.self.inside.first in
+    let slots = c.self.inside.slots.items in
+    let old = c.index_mut.result.now in
+    let some = rw (← c.self.view_is) at c.requires in
+    let inner = inner-slot first slots old some c.index_mut.ensures.value in
+    let buffer = rw (← c.self.view_is) at c.file.ensures.buffer in
+    let same : c.file.result.now.buffer ≡ old.buffer = buffer ∙ inner in
+    let none : held_of old.buffer ≡ [] = ap held_of (sym same) ∙ (sym c.held.ensures.value ∙ none-held _ (sym c.is_empty.ensures ∙ c.if-not-is_empty.false)) in
+    rw (← c.self.view_is, inner, inner-set first slots _ some) (grows-fills _ _ c.take_lines-fill.result old.buffer c.take_lines-fill.new.buffer none c.take_lines-fill.ensures.grows)
