@@ -14,7 +14,7 @@ use Rattle.rdlpp_meaning.specs.Outcome.{Report, and_then, fails, gives, report_o
 use Rattle.rdlpp_meaning.specs.declared.fault.Fault.{Fault}
 use Rattle.rdlpp_meaning.proofs.Outcomes.{and_then-gives, and_then-gives_gives, and_then-gives_nil, bytes-and_then_gives}
 use Rattle.rdlpp_source.specs.declared.sources.Sources.{Ghosts}
-use Rattle.rdlpp_conditions.specs.Conditions.{ConditionsView}
+use Rattle.rdlpp_read.specs.Conditions.{ConditionsView}
 use Rattle.rdlpp_read.specs.Buffer.{closed_buffer, held_of}
 use Rattle.rdlpp_read.specs.Files.{FilesView, inner_buffer}
 use Rattle.rdlpp_read.specs.declared.files.File.{File}

@@ -49,10 +49,9 @@ mod words;
 
 use arrayvec::ArrayString;
 pub use looking::OpenSource;
-use rdlpp_conditions::Conditions;
 use rdlpp_front::{Argument, SourceItem, next_item};
 use rdlpp_meaning::{Fault, FaultKind};
-use rdlpp_read::{Files, Fill, LogicalLine};
+use rdlpp_read::{Conditions, Files, Fill, LogicalLine};
 use rdlpp_scan::{Directive, Mode, line_ends_in, reserved};
 use rdlpp_source::Sources;
 use rdlpp_state::{

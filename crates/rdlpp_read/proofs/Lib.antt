@@ -1,3 +1,4 @@
 pub mod Growing
 pub mod BufferTokens
 pub mod LogicalLines
+pub mod Stacks

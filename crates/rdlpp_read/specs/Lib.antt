@@ -4,3 +4,5 @@ pub mod Ahead
 pub mod Filling
 pub mod LogicalLines
 pub mod Files
+pub mod Conditions
+pub mod Moves

@@ -11,7 +11,7 @@ use Rattle.rdlpp_meaning.specs.Resumed.{Place}
 use Rattle.rdlpp_meaning.specs.State.{State, fault_at}
 use Rattle.rdlpp_meaning.specs.declared.fault.FaultKind.{FaultKind}
 use Rattle.rdlpp_meaning.proofs.Directives.{wants_name}
-use Rattle.rdlpp_conditions.specs.Conditions.{ConditionsView}
+use Rattle.rdlpp_read.specs.Conditions.{ConditionsView}
 use Rattle.rdlpp_read.specs.Buffer.{held_of, opened_buffer, unused_of}
 use Rattle.rdlpp_read.specs.Files.{FilesView, consumed_file, entered_file, inner_buffer, with_inner}
 use Rattle.rdlpp_read.specs.declared.files.File.{File}

@@ -33,7 +33,7 @@ use Rattle.rdlpp_read.specs.declared.files.File.{File}
 use Rattle.rdlpp_read.proofs.Growing.{line_ends_le}
 use Rattle.rdlpp_front.specs.SourceItems.{AtBare, AtPerl, IsDirective, IsRefused, IsText, IsUsage, usage_name}
 use Rattle.rdlpp_front.proofs.Insides.{held_entered, text_inside}
-use Rattle.rdlpp_conditions.specs.Conditions.{ConditionsView}
+use Rattle.rdlpp_read.specs.Conditions.{ConditionsView}
 use Rattle.rdlpp_state.specs.Calls.{SourcesCalled}
 use Rattle.rdlpp_state.specs.Engine.{EngineView, IsSoundEngine, is_open}
 use Rattle.rdlpp_state.specs.Failures.{MayGoOn}

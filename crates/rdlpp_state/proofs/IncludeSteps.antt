@@ -27,7 +27,7 @@ use Rattle.rdlpp_source.specs.declared.sources.Found.{Found}
 use Rattle.rdlpp_source.specs.declared.sources.SourceFault.{SourceFault}
 use Rattle.rdlpp_source.specs.declared.sources.SourceFault.TheVariants as source
 use Rattle.rdlpp_source.specs.declared.sources.Sources.{Ghosts}
-use Rattle.rdlpp_conditions.specs.Conditions.{ConditionsView, own_conditions, place_of}
+use Rattle.rdlpp_read.specs.Conditions.{ConditionsView, own_conditions, place_of}
 use Rattle.rdlpp_read.specs.Buffer.{BufferView, held_of, tokens_left}
 use Rattle.rdlpp_read.specs.Files.{AreOpen, FilesView, IsSlot, consumed_file, entered_file, inner_buffer, shift_of, ends_mid_line_after, with_buffer, with_inner}
 use Rattle.rdlpp_read.specs.Filling.{Fills, ended_tokens, only_broken}

@@ -18,7 +18,7 @@ use Rattle.rdlpp_source.specs.Sources.{Catalog}
 use Rattle.rdlpp_source.specs.declared.sources.Sources.{Ghosts}
 use Rattle.rdlpp_texts.specs.Places.{place_bytes, source_text, texts_of}
 use Rattle.rdlpp_texts.specs.declared.place.TextPlace.{TextPlace}
-use Rattle.rdlpp_conditions.specs.Conditions.{ConditionsView}
+use Rattle.rdlpp_read.specs.Conditions.{ConditionsView}
 use Rattle.rdlpp_read.specs.Buffer.{entered_mode}
 use Rattle.rdlpp_read.specs.Files.{consumed_file, inner_buffer, shift_of, with_buffer, with_inner}
 use Rattle.rdlpp_read.specs.declared.files.File.{File}

@@ -15,7 +15,7 @@ use Rattle.rdlpp_meaning.specs.Resumed.{Live, Place}
 use Rattle.rdlpp_meaning.specs.State.{Rules, State, fault_at, shown_line}
 use Rattle.rdlpp_meaning.specs.declared.fault.FaultKind.TheVariants.{BadLine}
 use Rattle.rdlpp_source.specs.declared.sources.Sources.{Ghosts}
-use Rattle.rdlpp_conditions.specs.Conditions.{ConditionsView, own_conditions}
+use Rattle.rdlpp_read.specs.Conditions.{ConditionsView, own_conditions}
 use Rattle.rdlpp_read.specs.Buffer.{EndsHeld, held_of}
 use Rattle.rdlpp_read.specs.Files.{AreOpen, consumed_file, inner_buffer, with_inner}
 use Rattle.rdlpp_read.specs.declared.files.File.{File}

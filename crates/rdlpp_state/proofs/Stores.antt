@@ -17,7 +17,7 @@ use Rattle.rdlpp_source.specs.Sources.{Catalog, Present}
 use Rattle.rdlpp_source.specs.declared.sources.Found.{Found}
 use Rattle.rdlpp_source.specs.declared.sources.Sources.{Ghosts}
 use Rattle.rdlpp_texts.specs.Opened.{StaysOutermost, usage_id}
-use Rattle.rdlpp_conditions.specs.Conditions.{ConditionsView}
+use Rattle.rdlpp_read.specs.Conditions.{ConditionsView}
 use Rattle.rdlpp_read.specs.Buffer.{BufferView, Gains, MovesOver, Slides, ahead_of, entered_mode, held_of, opened_buffer, rest_of, text_left, unread_of}
 use Rattle.rdlpp_read.specs.Files.{consumed_file, entered_file, inner_buffer, ends_mid_line_after, with_buffer, with_inner}
 use Rattle.rdlpp_read.specs.declared.files.File.{File}

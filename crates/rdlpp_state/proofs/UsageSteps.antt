@@ -25,7 +25,7 @@ use Rattle.rdlpp_texts.specs.declared.step.CursorFault.{CursorFault}
 use Rattle.rdlpp_texts.specs.declared.step.CursorStep.{CursorStep}
 use Rattle.rdlpp_texts.specs.declared.step.CursorStep.TheVariants.{Lends, Refused as RefusedStep, Silent}
 use Rattle.rdlpp_texts.proofs.Falling.{digits-count, digits-short}
-use Rattle.rdlpp_conditions.specs.Conditions.{ConditionsView, own_conditions}
+use Rattle.rdlpp_read.specs.Conditions.{ConditionsView, own_conditions}
 use Rattle.rdlpp_read.specs.Buffer.{BufferView, closed_buffer, held_of, reading_line_of, text_left, unused_of}
 use Rattle.rdlpp_read.specs.Files.{FilesView, consumed_file, inner_buffer, source_digits, ends_mid_line_after, with_inner}
 use Rattle.rdlpp_read.specs.declared.files.File.{File}

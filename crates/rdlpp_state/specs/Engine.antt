@@ -6,7 +6,7 @@ use Rattle.rdlpp_table.specs.Table.{Macro, table_size}
 use Rattle.rdlpp_table.specs.View.{TableView}
 use Rattle.rdlpp_table.specs.declared.limits.Limits.{Limits}
 use Rattle.rdlpp_meaning.specs.Outcome.{Report}
-use Rattle.rdlpp_conditions.specs.Conditions.{ConditionsView}
+use Rattle.rdlpp_read.specs.Conditions.{ConditionsView}
 use Rattle.rdlpp_read.specs.Files.{FilesView}
 use Rattle.rdlpp_read.specs.declared.files.File.{File}
 use Rattle.rdlpp_texts.specs.Places.{texts_of}

@@ -8,7 +8,7 @@ use Rattle.rdlpp_meaning.specs.State.{shown_line}
 use Rattle.rdlpp_read.specs.Buffer.{unused_of}
 use Rattle.rdlpp_read.specs.Files.{inner_buffer, shift_of}
 use Rattle.rdlpp_read.specs.declared.files.File.{File}
-use Rattle.rdlpp_conditions.specs.Conditions.{ConditionsView}
+use Rattle.rdlpp_read.specs.Conditions.{ConditionsView}
 
 -- the open conditionals of the sources around one around which so many are open (this project's profile)
 unfoldable pub outer_open : ℕ → List Progress → List Progress

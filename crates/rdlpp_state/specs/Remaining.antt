@@ -17,7 +17,7 @@ use Rattle.rdlpp_read.specs.Buffer.{text_left, tokens_left}
 use Rattle.rdlpp_read.specs.Files.{shift_of, source_digits, ends_mid_line_after}
 use Rattle.rdlpp_read.specs.declared.files.File.{File}
 use Rattle.rdlpp_front.specs.SourceLeft.{source_left}
-use Rattle.rdlpp_conditions.specs.Conditions.{ConditionsView, place_of}
+use Rattle.rdlpp_read.specs.Conditions.{ConditionsView, place_of}
 use Rattle.rdlpp_texts.specs.Digits.{cursor_digits}
 use Rattle.rdlpp_usages.specs.Usages.{texts_left}
 use Rattle.rdlpp_state.specs.Engine.{EngineView}

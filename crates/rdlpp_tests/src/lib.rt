@@ -1,6 +1,6 @@
-//! Tests of what no contract says and no row of `rdlpp_rows` shows: that a text that is owned is found where there is memory, what
-//! is held piece by piece, how often sources and sinks are asked, where a failure is told to have come, and printed texts. What
-//! files and folders come to is in `checks/rows` and `checks/usage`, and that there is memory for each part in `checks/refusals`.
+//! Tests of what no contract says and no row of `rdlpp_rows` shows: what is held piece by piece, how often sources and sinks are
+//! asked, and where a failure is told to have come. What files and folders come to is in `checks/rows` and `checks/usage`, that
+//! there is memory for each part in `checks/refusals`, and that texts which are owned are found in the calls from C and Python.
 #![tactic(auto)]
 
 #[cfg(test)]
@@ -11,10 +11,6 @@ mod buffered_tests;
 mod failure_tests;
 #[cfg(test)]
 mod held_tests;
-#[cfg(test)]
-mod memory_tests;
-#[cfg(test)]
-mod report_tests;
 #[cfg(test)]
 mod resuming_tests;
 #[cfg(test)]

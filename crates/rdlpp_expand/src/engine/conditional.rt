@@ -1,8 +1,8 @@
 // The directives of conditionals in the open sources.
 ghost use Rattle.std.specs.Prelude.{◌≡◌, ◌⊎◌, ◌+◌, ◌<◌, ◌≤◌, Bool, None, IfSome, length};
 ghost use Rattle.rdlpp_scan.specs.declared.token.Directive.TheVariants.{Endif};
-ghost use Rattle.rdlpp_conditions.specs.Conditions.{place_of};
-ghost use Rattle.rdlpp_conditions.specs.Moves.{IsBranch, turned_with};
+ghost use Rattle.rdlpp_read.specs.Conditions.{place_of};
+ghost use Rattle.rdlpp_read.specs.Moves.{IsBranch, turned_with};
 ghost use Rattle.rdlpp_read.specs.Buffer.{held_of};
 ghost use Rattle.rdlpp_read.specs.Files.{inner_buffer};
 ghost use Rattle.rdlpp_front.specs.SourceItems.{IsDirective, IsNamed, given_len};
@@ -15,9 +15,9 @@ ghost use Rattle.rdlpp_state.specs.Steps.{UncutStep};
 
 use super::Engine;
 use super::words::{ELSE_BYTES, ELSIF_BYTES, ENDIF_BYTES};
-use rdlpp_conditions::Branch;
 use rdlpp_front::Argument;
 use rdlpp_meaning::FaultKind;
+use rdlpp_read::Branch;
 use rdlpp_scan::{Directive, Mode};
 use rdlpp_source::Sources;
 use rdlpp_state::PieceLocation;

@@ -9,9 +9,8 @@ ghost use Rattle.rdlpp_state.specs.Opening.{Makes, Starts, opened_engine, start_
 
 use super::Engine;
 use arrayvec::ArrayString;
-use rdlpp_conditions::Conditions;
 use rdlpp_meaning::{Fault, FaultKind};
-use rdlpp_read::Files;
+use rdlpp_read::{Conditions, Files};
 use rdlpp_source::{Found, SourceFault, Sources};
 use rdlpp_state::{Marks, NewFault, Pending, Phase, copied_fault};
 use rdlpp_table::{DefineFault, Limits, Table};

@@ -1,7 +1,7 @@
 use Rattle.std.proofs.Common.{◌≡◌, sym, ap, ◌∙◌, arith}
-use Rattle.rdlpp_conditions.specs.Conditions.{place_of}
-use Rattle.rdlpp_conditions.specs.Moves.{IsBranch}
-use Rattle.rdlpp_conditions.specs.declared.conditions.Branch.TheVariants.{Decided, Inner, Refused}
+use Rattle.rdlpp_read.specs.Conditions.{place_of}
+use Rattle.rdlpp_read.specs.Moves.{IsBranch}
+use Rattle.rdlpp_read.specs.declared.conditions.Branch.TheVariants.{Decided, Inner, Refused}
 use Rattle.rdlpp_state.specs.Conditionals.{goes_past}
 use Rattle.rdlpp_state.specs.OpenConditionals.{inner_below}
 use Rattle.rdlpp_state.proofs.DirectiveSteps.{branch_within, decided_steps, inner_steps, meets_here, own_here, refused_steps}

@@ -1,8 +1,8 @@
 use Rattle.std.proofs.Common.{◌≡◌, Some, Ok, Err, [], sym, ap, ◌∙◌, arith}
 use Rattle.rdlpp_scan.specs.declared.token.Directive.TheVariants.{Endif}
 use Rattle.rdlpp_meaning.specs.State.{fault_at}
-use Rattle.rdlpp_conditions.specs.Conditions.{place_of}
-use Rattle.rdlpp_conditions.specs.Moves.{Closes}
+use Rattle.rdlpp_read.specs.Conditions.{place_of}
+use Rattle.rdlpp_read.specs.Moves.{Closes}
 use Rattle.rdlpp_read.specs.Buffer.{held_of}
 use Rattle.rdlpp_read.specs.Files.{inner_buffer}
 use Rattle.rdlpp_state.specs.Conditionals.{goes_past}

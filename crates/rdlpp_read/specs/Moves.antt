@@ -8,9 +8,9 @@ use Rattle.rdlpp_meaning.specs.State.{State}
 use Rattle.rdlpp_meaning.specs.Parts.{Command}
 use Rattle.rdlpp_meaning.specs.Meaning.{Progress, Test, TestFault, Holds, is_else, macro_name, name_test, opening_within, turn}
 use Rattle.rdlpp_meaning.specs.Resumed.{Place, Live, Skipped}
-use Rattle.rdlpp_conditions.specs.declared.conditions.Branch.{Branch}
-use Rattle.rdlpp_conditions.specs.declared.conditions.Branch.TheVariants.{Inner, Refused, Decided, Named}
-use Rattle.rdlpp_conditions.specs.Conditions.{ConditionsView, conditions_left}
+use Rattle.rdlpp_read.specs.declared.conditions.Branch.{Branch}
+use Rattle.rdlpp_read.specs.declared.conditions.Branch.TheVariants.{Inner, Refused, Decided, Named}
+use Rattle.rdlpp_read.specs.Conditions.{ConditionsView, conditions_left}
 
 -- whether text is skipped behind a directive, by whether its test holds
 unfoldable pub skipped_by : Bool → Option ℕ

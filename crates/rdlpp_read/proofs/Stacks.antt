@@ -5,11 +5,11 @@ use Rattle.rdlpp_scan.specs.declared.token.Directive.{Directive}
 use Rattle.rdlpp_meaning.specs.Meaning.{Holds, Progress, TestFault, is_else, opening_within, turn}
 use Rattle.rdlpp_meaning.specs.Resumed.{Live, Place}
 use Rattle.rdlpp_meaning.specs.declared.fault.FaultKind.TheVariants.{BranchAfterElse, TooManyConditionals}
-use Rattle.rdlpp_conditions.specs.Conditions.{ConditionsView, conditions_left, own_conditions, place_by, place_of, progress_of, seen_of}
-use Rattle.rdlpp_conditions.specs.Moves.{Closes, IsBranch, IsTurn, IsUnclosed, closed_one, turned_open, with_inner}
-use Rattle.rdlpp_conditions.specs.declared.conditions.Branch.{Branch}
-use Rattle.rdlpp_conditions.specs.declared.conditions.Branch.TheVariants.{Decided, Inner, Named, Refused}
-use Rattle.rdlpp_conditions.specs.declared.conditions.Progress.{Progress as StoredProgress}
+use Rattle.rdlpp_read.specs.Conditions.{ConditionsView, conditions_left, own_conditions, place_by, place_of, progress_of, seen_of}
+use Rattle.rdlpp_read.specs.Moves.{Closes, IsBranch, IsTurn, IsUnclosed, closed_one, turned_open, with_inner}
+use Rattle.rdlpp_read.specs.declared.conditions.Branch.{Branch}
+use Rattle.rdlpp_read.specs.declared.conditions.Branch.TheVariants.{Decided, Inner, Named, Refused}
+use Rattle.rdlpp_read.specs.declared.conditions.Progress.{Progress as StoredProgress}
 
 -- The stored conditionals as they are seen, and the place that they make.
 

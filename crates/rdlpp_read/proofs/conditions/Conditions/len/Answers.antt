@@ -1,7 +1,7 @@
 use Rattle.std.proofs.Common.{ap, ◌∙◌}
-use Rattle.rdlpp_conditions.specs.Conditions.{ConditionsView}
-use Rattle.rdlpp_conditions.proofs.Stacks.{count_seen}
-use Rattle.rdlpp_conditions.proofs.conditions.Conditions.len.Goals as goal
+use Rattle.rdlpp_read.specs.Conditions.{ConditionsView}
+use Rattle.rdlpp_read.proofs.Stacks.{count_seen}
+use Rattle.rdlpp_read.proofs.conditions.Conditions.len.Goals as goal
 
 pub returns-clause-value : goal.returns-clause-value
 returns-clause-value c =

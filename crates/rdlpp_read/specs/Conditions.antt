@@ -3,7 +3,7 @@
 use Rattle.std.specs.Prelude.{ℕ, ◌-◌, List, [], ◌∷◌, length, take, map, reverse, Option, None, Some}
 use Rattle.rdlpp_meaning.specs.Meaning.{Progress}
 use Rattle.rdlpp_meaning.specs.Resumed.{Place, Live, Skipped}
-use Rattle.rdlpp_conditions.specs.declared.conditions.Progress.{Progress as StoredProgress}
+use Rattle.rdlpp_read.specs.declared.conditions.Progress.{Progress as StoredProgress}
 
 -- the open conditionals, the innermost first; where text is skipped, how many opened in it; and how many may be open
 pub record ConditionsView : Type 0 where

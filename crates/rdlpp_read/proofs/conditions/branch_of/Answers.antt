@@ -1,7 +1,7 @@
 use Rattle.std.proofs.Common.{not, refl, sym, ◌∙◌}
-use Rattle.rdlpp_conditions.specs.Conditions.{progress_of}
-use Rattle.rdlpp_conditions.proofs.Stacks.{turn_else, turn_named, turn_refused, turn_taken}
-use Rattle.rdlpp_conditions.proofs.conditions.branch_of.Goals as goal
+use Rattle.rdlpp_read.specs.Conditions.{progress_of}
+use Rattle.rdlpp_read.proofs.Stacks.{turn_else, turn_named, turn_refused, turn_taken}
+use Rattle.rdlpp_read.proofs.conditions.branch_of.Goals as goal
 
 pub returns-then-progress : goal.returns-then-progress
 returns-then-progress c = turn_refused (progress_of c.args.progress.now) c.args.word c.if-progress.true

@@ -1,11 +1,11 @@
 use Rattle.std.proofs.Common.{drop, ap, ◌∙◌, refl, arith}
 use Rattle.rdlpp_meaning.specs.declared.fault.FaultKind.TheVariants.{StrayBranch}
 use Rattle.rdlpp_meaning.specs.Resumed.{Place}
-use Rattle.rdlpp_conditions.specs.declared.conditions.Branch.TheVariants.{Inner, Refused}
-use Rattle.rdlpp_conditions.specs.Conditions.{ConditionsView, progress_of}
-use Rattle.rdlpp_conditions.specs.Moves.{IsBranch}
-use Rattle.rdlpp_conditions.proofs.Stacks.{branch_inner, branch_own, count_seen, place_any, place_none, place_some}
-use Rattle.rdlpp_conditions.proofs.conditions.Conditions.branch.Goals as goal
+use Rattle.rdlpp_read.specs.declared.conditions.Branch.TheVariants.{Inner, Refused}
+use Rattle.rdlpp_read.specs.Conditions.{ConditionsView, progress_of}
+use Rattle.rdlpp_read.specs.Moves.{IsBranch}
+use Rattle.rdlpp_read.proofs.Stacks.{branch_inner, branch_own, count_seen, place_any, place_none, place_some}
+use Rattle.rdlpp_read.proofs.conditions.Conditions.branch.Goals as goal
 
 pub returns-then-len-below : goal.returns-then-len-below
 returns-then-len-below c =

@@ -2,10 +2,10 @@ use Rattle.std.proofs.Common.{◌≡◌, ◌-◌, List, length, None, Some, Ok, 
 use Rattle.rdlpp_meaning.specs.declared.fault.FaultKind.TheVariants.{StrayBranch}
 use Rattle.rdlpp_meaning.specs.Meaning.{Progress}
 use Rattle.rdlpp_meaning.specs.Resumed.{Place}
-use Rattle.rdlpp_conditions.specs.Conditions.{ConditionsView, seen_of}
-use Rattle.rdlpp_conditions.specs.Moves.{Closes, closed_one, with_inner}
-use Rattle.rdlpp_conditions.proofs.Stacks.{closes_inner, closes_own, count_seen, place_any, place_none, rest_seen}
-use Rattle.rdlpp_conditions.proofs.conditions.Conditions.close.Goals as goal
+use Rattle.rdlpp_read.specs.Conditions.{ConditionsView, seen_of}
+use Rattle.rdlpp_read.specs.Moves.{Closes, closed_one, with_inner}
+use Rattle.rdlpp_read.proofs.Stacks.{closes_inner, closes_own, count_seen, place_any, place_none, rest_seen}
+use Rattle.rdlpp_read.proofs.conditions.Conditions.close.Goals as goal
 
 pub returns-then-len-below : goal.returns-then-len-below
 returns-then-len-below c =

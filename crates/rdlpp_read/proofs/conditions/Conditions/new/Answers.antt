@@ -1,7 +1,7 @@
 use Rattle.std.proofs.Common.{ℕ, List, None, ap}
-use Rattle.rdlpp_conditions.specs.declared.conditions.Progress.{Progress as StoredProgress}
-use Rattle.rdlpp_conditions.specs.Conditions.{ConditionsView, seen_of}
-use Rattle.rdlpp_conditions.proofs.conditions.Conditions.new.Goals as goal
+use Rattle.rdlpp_read.specs.declared.conditions.Progress.{Progress as StoredProgress}
+use Rattle.rdlpp_read.specs.Conditions.{ConditionsView, seen_of}
+use Rattle.rdlpp_read.proofs.conditions.Conditions.new.Goals as goal
 
 -- a view of stored conditionals of which none skips text
 live_view : ℕ → List StoredProgress → ConditionsView

@@ -2,8 +2,8 @@
 ghost use Rattle.std.specs.Prelude.{◌≡◌, ◌+◌, ◌^◌, ◌≤◌, ◌<◌, ◌∷◌, [], drop, length, IfOk, IfSome, None};
 ghost use Rattle.std.specs.Option.{is_none, unwrap_or};
 ghost use Rattle.rdlpp_meaning.specs.Meaning.{is_else};
-ghost use Rattle.rdlpp_conditions.specs.Conditions.{place_of, progress_of};
-ghost use Rattle.rdlpp_conditions.specs.Moves.{
+ghost use Rattle.rdlpp_read.specs.Conditions.{place_of, progress_of};
+ghost use Rattle.rdlpp_read.specs.Moves.{
   Closes,
   IsBranch,
   IsTurn,
@@ -59,7 +59,7 @@ pub struct Conditions {
 impl Model for Conditions {
     ghost use Rattle.std.specs.Prelude.{◌≡◌, ◌≤◌, length};
     ghost use Rattle.std.specs.Vec.{vec_capacity};
-    ghost use Rattle.rdlpp_conditions.specs.Conditions.{ConditionsView, seen_of};
+    ghost use Rattle.rdlpp_read.specs.Conditions.{ConditionsView, seen_of};
 
     ghost Value = { ConditionsView };
 

@@ -1,2 +1,0 @@
-pub mod Conditions
-pub mod Moves
