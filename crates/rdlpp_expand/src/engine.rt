@@ -45,7 +45,6 @@ mod renewing;
 mod skipping;
 mod texts;
 mod usage;
-mod words;
 
 use arrayvec::ArrayString;
 pub use looking::OpenSource;
@@ -64,7 +63,6 @@ use rdlpp_usages::Expansion;
 use std::alloc::Global;
 use std::marker::Model;
 pub(crate) use texts::TextStep;
-use words::DEFINE_BYTES;
 
 /// What the steps that come to no bytes may cost in one read, or in one call of `Engine::next`, before one more: a step over open
 /// texts costs 1, the opening of a usage 16, and another one, which may take a line, 256. Each byte of a `define`, of what is kept of
@@ -395,7 +393,10 @@ impl<S: Sources> Engine<S> {
         let at = file.buffer.line();
         let line = &file.buffer.held()[..len];
         let lines = line_ends_in(line);
-        match self.table.read_define(&line[len.min(DEFINE_BYTES)..]) {
+        match self
+            .table
+            .read_define(&line[len.min(Directive::Define.word_len())..])
+        {
             Err(fault) => Some(self.record_word_fault(fault_kind(fault.kind), fault.word)),
             Ok(()) => {
                 let _count = self.table.len();

@@ -7,7 +7,8 @@ mod watching;
 mod writing;
 
 pub use engine::{Engine, OpenSource, READ_ALLOWANCE};
-pub use rdlpp_meaning::{Fault, FaultKind, laws};
+pub use rdlpp_laws as laws;
+pub use rdlpp_meaning::{Fault, FaultKind};
 pub use rdlpp_state::{Held, LineStep, NewFault, Piece, Position, fault_kind};
 pub use reading::{ReadEnd, ReadPart, Reading};
 pub use watching::{Placed, Unwatched, Watcher};

@@ -80,8 +80,6 @@ pub fn run_watched<S: Sources, W: Sink, V: Watcher>(
 
 // Ends a run that wrote so many bytes: flushes the sink, unless a write failed, and answers the fault that the engine keeps, or how
 // many bytes the writer took.
-#[cold]
-#[inline(never)]
 fn finish<S: Sources, W: Sink>(
     engine: &mut Engine<S>,
     writer: &mut W,

@@ -1,15 +1,10 @@
 pub mod Outcomes
 pub mod LiveText
-pub mod Rows
 pub mod Directives
 pub mod Skipping
 pub mod Moves
 pub mod SourceCalls
-pub mod LiteralSubstitution
-pub mod LargerRuns
-pub mod LargerOutputs
-pub mod TornCalls
-pub mod TornTokens
+pub mod BodyTokens
 pub mod ReadCalls
 pub mod KeptTexts
 pub mod OpenScopes

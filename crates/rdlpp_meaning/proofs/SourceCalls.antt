@@ -1,5 +1,5 @@
 -- Laws of a usage in a source: with its call, by things, by tokens, and without lines.
-use Rattle.std.proofs.Common.{◌≡◌, ℕ, zero, suc, ◌≤◌, Bool, false, List, [], ◌∷◌, length, map, take, drop, refl, sym, ap, ◌∙◌, arith, Option, None, ◌++◌, reverse, true, Some, filter, if◌then◌else◌, ◌==◌}
+use Rattle.std.proofs.Common.{◌≡◌, ℕ, zero, suc, ◌≤◌, Bool, false, List, [], ◌∷◌, length, map, take, drop, refl, sym, ap, ◌∙◌, arith, Option, None, ◌++◌, reverse, true, Some, filter, if◌then◌else◌, ◌==◌, subst, bytes_eq, nat_le}
 use Rattle.std.specs.List.{list_any, prefix_len}
 use Rattle.std.proofs.lemmas.Grind.{common_steps}
 use Rattle.std.proofs.lemmas.List.{drop-map, length-map, map-append, reverse-append}
@@ -12,7 +12,7 @@ use Rattle.rdlpp_scan.specs.declared.token.Mode.TheVariants.{Plain}
 use Rattle.rdlpp_scan.specs.declared.token.Token.{Token}
 use Rattle.rdlpp_table.specs.Table.{Formal, Macro, macro_named}
 use Rattle.rdlpp_meaning.specs.Actuals.{Bound, Call, Cut, Halt, Reads, Role, Text, actual_of, after_leading_space, is_space, item_reads, item_role, item_size, kept, kind_role, level_after, map_call, source_reads, text_reads, token_role, trimmed}
-use Rattle.rdlpp_meaning.specs.CallScan.{Before, Closed, Keeps as KeepsThing, Passes, ScanFault, Scanned, Split, CallState, ScanBreakFault, Turn, all_parts, call_of, call_of_scan, is_kept, room_after, scan, scan_onto, scanned, source_role, split, split_by, call_state_after}
+use Rattle.rdlpp_meaning.specs.CallScan.{Before, Closed, Closes, Keeps as KeepsThing, Passes, ScanFault, Scanned, Split, CallState, ScanBreakFault, Turn, all_parts, call_of, call_of_scan, is_kept, room_after, scan, scan_onto, scanned, source_role, split, split_by, call_state_after, turn}
 use Rattle.rdlpp_meaning.specs.Expansion.{Opens, UsageFault, Usage, bound_parts, bytes_of, expand, is_count, run_outcome, usage_of, usage_of_call, usage_of_formals, usage_of_macro, usage_token, walk}
 use Rattle.rdlpp_meaning.specs.Items.{Arg, Item, Written, broken_line, unlined, unlined_item}
 use Rattle.rdlpp_meaning.specs.Meaning.{Passage, Progress, goes_on, leaves}
@@ -25,7 +25,87 @@ use Rattle.rdlpp_meaning.specs.declared.fault.FaultKind.{FaultKind}
 use Rattle.rdlpp_meaning.specs.declared.fault.FaultKind.TheVariants.{ArgumentCount, DirectiveInText, UndefinedMacro}
 use Rattle.rdlpp_meaning.proofs.LiveText.{deeper_of, expand_walk, leading_text, resumed_part, resumed_run, run_refused, usage_text, usage_walk, usage_walks}
 use Rattle.rdlpp_meaning.proofs.Outcomes.{fails-goes_on}
-use Rattle.rdlpp_meaning.proofs.TornCalls.{usage_within}
+
+-- A usage takes at most what stands behind its name.
+
+-- a scan takes at most so many things
+unfoldable pub TakesUpTo : {A : Type 0} → ℕ → Scanned A → Type 0
+TakesUpTo n (Closed kept used) = used ≤ n
+TakesUpTo n _ = Unit
+
+-- with a thing in front
+onto-within : {A : Type 0} (n : ℕ) (front : List A) (s : Scanned A) → TakesUpTo n s → TakesUpTo (suc n) (scan_onto front s)
+unfolding TakesUpTo scan_onto
+onto-within n front (Closed kept used) h = omega (arith, h)
+onto-within n front (ScanFault f) h = tt
+onto-within n front (ScanBreakFault f line) h = tt
+
+-- by what the scan does at it
+scanned-within : {A : Type 0} (t : Turn) (x : A) (n : ℕ) (s : Scanned A) → TakesUpTo n s → TakesUpTo (suc n) (scanned t x s)
+unfolding TakesUpTo scanned
+scanned-within Passes x n s h = onto-within n [] s h
+scanned-within KeepsThing x n s h = onto-within n (x ∷ []) s h
+scanned-within Closes x n s h = omega arith
+scanned-within _ x n s h = tt
+
+-- the scan of things takes at most all of them
+scan-within : {A : Type 0} (role : A → Role) (size : A → ℕ) (at : CallState) (room : ℕ) (xs : List A) → TakesUpTo (length xs) (scan role size at room xs)
+unfolding scan TakesUpTo
+scan-within role size at room [] = tt
+scan-within role size at room (x ∷ xs) =
+    scanned-within (turn at (role x) (nat_le (size x) room)) x (length xs) _
+    (scan-within role size (call_state_after at (role x)) (room_after at room (role x) (size x)) xs)
+
+-- a usage takes at most so many things
+unfoldable pub UsesUpTo : {A : Type 0} → ℕ → Usage A → Type 0
+UsesUpTo n (UsageFault f word line) = Unit
+UsesUpTo n (Opens m actuals used) = used ≤ n
+
+-- it takes what its call takes
+pub counted-uses : {A : Type 0} (line : ℕ) (name : List ℕ) (n : ℕ) (test : Bool) (m : Macro) (actuals : List (List A)) (used : ℕ) → used ≤ n
+    → UsesUpTo n (if test then Opens m actuals used else UsageFault ArgumentCount name line)
+unfolding UsesUpTo
+counted-uses line name n true m actuals used h = h
+counted-uses line name n false m actuals used h = tt
+
+-- by the scan of its call
+call-uses : {A : Type 0} (reads : Reads A) (line : ℕ) (name : List ℕ) (m : Macro) (formals : List Formal) (n : ℕ) (c : Scanned A) → TakesUpTo n c
+    → UsesUpTo n (usage_of_call reads m formals line name (call_of_scan reads.role 0 c))
+unfolding TakesUpTo UsesUpTo usage_of_call call_of_scan
+call-uses reads line name m formals n (Closed kept used) h = counted-uses line name n _ m _ used h
+call-uses reads line name m formals n (ScanFault f) h = tt
+call-uses reads line name m formals n (ScanBreakFault f own) h = tt
+
+-- a choice of usages
+choice-uses : {A : Type 0} (n : ℕ) (test : Bool) (u v : Usage A) → UsesUpTo n u → UsesUpTo n v → UsesUpTo n (if test then u else v)
+choice-uses n true u v h k = h
+choice-uses n false u v h k = k
+
+module _ {A : Type 0} (rules : Rules) (reads : Reads A) (line : ℕ) (name : List ℕ) (xs : List A) where
+  -- by its macro's formals
+  formals-use : (m : Macro) (formals : Option (List Formal)) → UsesUpTo (length xs) (usage_of_formals rules reads line name xs m formals)
+  unfolding usage_of_formals UsesUpTo
+  formals-use m None = omega arith
+  formals-use m (Some formals) =
+      call-uses reads line name m formals (length xs) _ (scan-within reads.role reads.size Before rules.argument_bytes xs)
+
+  -- by what its name is
+  found-uses : (o : List (List ℕ)) (found : Option Macro)
+      → UsesUpTo (length xs) (elim found [ None ↦ UsageFault UndefinedMacro name line | Some m ↦ usage_of_macro rules reads line o name xs m ])
+  unfolding usage_of_macro UsesUpTo
+  found-uses o None = tt
+  found-uses o (Some m) = choice-uses (length xs) (list_any (bytes_eq name) o) _ _ tt (formals-use m m.formals)
+
+  -- a usage takes at most all things behind its name
+  usage-uses : (s : State) (o : List (List ℕ)) → UsesUpTo (length xs) (usage_of rules s reads line o name xs)
+  unfolding usage_of UsesUpTo
+  usage-uses s o = choice-uses (length xs) (is_reserved name) _ _ tt (found-uses o (macro_named s.macros name))
+
+-- one that opens a macro takes at most all things behind its name
+pub usage_within : {A : Type 0} (rules : Rules) (s : State) (reads : Reads A) (line : ℕ) (o : List (List ℕ)) (name : List ℕ) (xs : List A) (m : Macro) (actuals : List (List A)) (used : ℕ)
+    → usage_of rules s reads line o name xs ≡ Opens m actuals used → used ≤ length xs
+unfolding UsesUpTo
+usage_within rules s reads line o name xs m actuals used e = subst (UsesUpTo (length xs)) e (usage-uses rules reads line name xs s o)
 
 -- The law of a usage in a source: its expansion, and then what remains behind its call.
 

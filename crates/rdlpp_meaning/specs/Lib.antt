@@ -13,9 +13,6 @@ pub mod Moves
 pub mod Output
 pub mod Profile
 pub mod OutputLimit
-pub mod Literal
-pub mod LiteralLaws
-pub mod LimitLaws
 pub mod CallScan
 pub mod CallReading
 pub mod TextTokens

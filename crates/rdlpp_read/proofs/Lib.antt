@@ -1,4 +1,4 @@
 pub mod Growing
 pub mod BufferTokens
 pub mod LogicalLines
-pub mod Stacks
+pub mod ConditionStacks

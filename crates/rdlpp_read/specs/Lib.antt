@@ -5,4 +5,4 @@ pub mod Filling
 pub mod LogicalLines
 pub mod Files
 pub mod Conditions
-pub mod Moves
+pub mod ConditionMoves

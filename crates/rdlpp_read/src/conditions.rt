@@ -3,7 +3,7 @@ ghost use Rattle.std.specs.Prelude.{◌≡◌, ◌+◌, ◌^◌, ◌≤◌, ◌<
 ghost use Rattle.std.specs.Option.{is_none, unwrap_or};
 ghost use Rattle.rdlpp_meaning.specs.Meaning.{is_else};
 ghost use Rattle.rdlpp_read.specs.Conditions.{place_of, progress_of};
-ghost use Rattle.rdlpp_read.specs.Moves.{
+ghost use Rattle.rdlpp_read.specs.ConditionMoves.{
   Closes,
   IsBranch,
   IsTurn,
@@ -11,7 +11,7 @@ ghost use Rattle.rdlpp_read.specs.Moves.{
   Opens,
   skipped_by,
   turned_with,
-  with_inner,
+  with_count,
 };
 
 use rdlpp_meaning::FaultKind;
@@ -150,7 +150,7 @@ impl Conditions {
     /// Opens a conditional in skipped text, where only its balance counts; in live text nothing changes.
     pub fn open_skipped(&mut self)
         requires { unwrap_or self.old.skipped 0 + 1 < 2 ^ 64 }
-        ensures skipped { IfSome self.old.skipped (λ n. self.new ≡ with_inner (n + 1) self.old) }
+        ensures skipped { IfSome self.old.skipped (λ n. self.new ≡ with_count (n + 1) self.old) }
         ensures live { self.old.skipped ≡ None → self.new ≡ self.old }
     {
         if let Some(inner) = self.skipped {
@@ -245,7 +245,7 @@ impl Conditions {
 }
 
 // Whether text is skipped behind a directive whose test holds or doesn't.
-#[tactic(auto, unfolding(crate::specs::Moves::skipped_by))]
+#[tactic(auto, unfolding(crate::specs::ConditionMoves::skipped_by))]
 fn skipped_by(holds: bool) -> Option<u64>
     ensures { result ≡ skipped_by holds }
 {

@@ -8,3 +8,6 @@ pub mod RemainingLaws
 pub mod RangeLaws
 pub mod CleanTexts
 pub mod DirectiveNames
+pub mod Joins
+pub mod Measures
+pub mod SimpleDefaults

@@ -1,5 +1,5 @@
 -- Which token stands at the front of a text: by its first bytes, by its parts, and behind plain argument bytes.
-use Rattle.std.proofs.Common.{◌≡◌, ℕ, suc, ◌+◌, ◌<◌, ◌≤◌, Bool, true, false, cond, ◌||◌, ◌&&◌, eqb, List, ◌∷◌, ◌++◌, length, get_or, refl, sym, ap, ◌∙◌, subst, inl, inr, ⊎_elim, arith, ltb, drop, Option, eqb-true, append-nil, []}
+use Rattle.std.proofs.Common.{◌≡◌, ℕ, suc, ◌+◌, ◌<◌, ◌≤◌, Bool, true, false, cond, ◌||◌, ◌&&◌, eqb, List, ◌∷◌, ◌++◌, length, get_or, refl, sym, ap, ◌∙◌, subst, inl, inr, ⊎_elim, arith, ltb, drop, Option, eqb-true, append-nil, [], slice_index, ◌==◌}
 use Rattle.std.specs.List.{prefix_len}
 use Rattle.std.proofs.lemmas.Bool.{and_parts, cases_Bool, cond_both, false_from_ne_true, false≢true, or_cases, or_from, or_parts}
 use Rattle.std.proofs.lemmas.List.Sums.{prefix_len-le-length}
@@ -610,3 +610,14 @@ pub plain_argument_passed : (mode : Mode) (bs : List ℕ) → fault_of_tokens mo
 unfolding plain_argument_len fault
 plain_argument_passed Plain bs = plain_argument_run bs
 plain_argument_passed _ bs = refl
+
+-- a string begins with a quote
+pub row-string : (bs : List ℕ) (t : Token) → Row bs t → t.kind ≡ Str → (slice_index bs 0 == 34) ≡ true
+unfolding whole is_plain_kind
+row-string bs t (AtPerl h e) k = let i = ap (λ (u : Token). u.kind) e in absurd (cc)
+row-string bs t (AtLineComment h e) k = absurd (cc)
+row-string bs t (AtBlockComment h e) k = absurd (cc)
+row-string bs t (AtString h e) k = h
+row-string bs t (AtBack h e) k = let i = ap (λ (u : Token). u.kind) e in absurd (cc)
+row-string bs t (AtBare h g e) k = let i = ap (λ (u : Token). u.kind) e in absurd (cc)
+row-string bs t (AtPlain h q) k = absurd (false≢true (sym (ap is_plain_kind k) ∙ h))

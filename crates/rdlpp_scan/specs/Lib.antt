@@ -15,3 +15,9 @@ pub mod Comments
 pub mod TokenKinds
 pub mod CleanTexts
 pub mod PlainTexts
+pub mod Continuations
+pub mod LineTokens
+pub mod Texts
+pub mod Reading
+pub mod OnePiece
+pub mod SimpleDefaults

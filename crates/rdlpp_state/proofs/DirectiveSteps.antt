@@ -22,7 +22,7 @@ use Rattle.rdlpp_meaning.proofs.Directives.{branches_conditional, opens_conditio
 use Rattle.rdlpp_meaning.proofs.Skipping.{has_own_token, line_ends_of-owed}
 use Rattle.rdlpp_source.specs.declared.sources.Sources.{Ghosts}
 use Rattle.rdlpp_read.specs.Conditions.{ConditionsView, conditions_left, own_conditions, place_of}
-use Rattle.rdlpp_read.specs.Moves.{Closes, HasTest, IsBranch, Opens, closed_one, opened_with, turned_with, with_inner as with_count}
+use Rattle.rdlpp_read.specs.ConditionMoves.{Closes, HasTest, IsBranch, Opens, closed_one, opened_with, turned_with, with_count}
 use Rattle.rdlpp_read.specs.declared.conditions.Branch.{Branch}
 use Rattle.rdlpp_read.specs.declared.conditions.Branch.TheVariants.{Decided, Inner, Named, Refused}
 use Rattle.rdlpp_read.specs.Buffer.{entered_mode, held_of, unused_of}

@@ -21,7 +21,7 @@ use Rattle.rdlpp_meaning.specs.State.{Accepted, Defined, DefinitionFault, Rules,
 use Rattle.rdlpp_meaning.specs.declared.fault.FaultKind.{FaultKind}
 use Rattle.rdlpp_meaning.specs.declared.fault.FaultKind.TheVariants as fault
 use Rattle.rdlpp_read.specs.Conditions.{ConditionsView, own_conditions, place_by, place_of}
-use Rattle.rdlpp_read.specs.Moves.{skipped_by}
+use Rattle.rdlpp_read.specs.ConditionMoves.{skipped_by}
 use Rattle.rdlpp_read.specs.Buffer.{BufferView, EndsHeld, ahead_of, closed_buffer, entered_mode, held_of, rest_of, text_left, tokens_left, unused_of}
 use Rattle.rdlpp_read.specs.Files.{consumed_file, inner_buffer, ends_mid_line_after, with_buffer, with_inner}
 use Rattle.rdlpp_read.specs.Filling.{Fills, ended_tokens, only_broken}

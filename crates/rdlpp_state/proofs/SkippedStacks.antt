@@ -36,7 +36,7 @@ use Rattle.rdlpp_meaning.proofs.Skipping.{has_own_token, stands_by_itself}
 use Rattle.rdlpp_meaning.proofs.Outcomes.{after_bytes-twice}
 use Rattle.rdlpp_meaning.proofs.LiveText.{line_ends_of-append, only_blanks-append}
 use Rattle.rdlpp_read.specs.Conditions.{ConditionsView, place_of}
-use Rattle.rdlpp_read.specs.Moves.{skipped_by}
+use Rattle.rdlpp_read.specs.ConditionMoves.{skipped_by}
 use Rattle.rdlpp_read.specs.Buffer.{BufferView, EndsHeld, ahead_of, entered_mode, held_of, rest_of, text_left, tokens_left}
 use Rattle.rdlpp_read.specs.Files.{consumed_file, inner_buffer, ends_mid_line_after, with_buffer, with_inner}
 use Rattle.rdlpp_read.specs.Filling.{Fills}

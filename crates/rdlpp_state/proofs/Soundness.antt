@@ -20,7 +20,7 @@ use Rattle.rdlpp_source.specs.declared.sources.Sources.{Ghosts}
 use Rattle.rdlpp_texts.specs.Places.{texts_of}
 use Rattle.rdlpp_texts.specs.Steps.{AreSound}
 use Rattle.rdlpp_read.specs.Conditions.{ConditionsView, conditions_left as left_open, place_of}
-use Rattle.rdlpp_read.specs.Moves.{Closes, IsBranch, IsDone, IsTurn, IsUnclosed, closed_one, opened_with, opening_answer, skipped_by, turned_open, turned_with, with_inner as with_count}
+use Rattle.rdlpp_read.specs.ConditionMoves.{Closes, IsBranch, IsDone, IsTurn, IsUnclosed, closed_one, opened_with, opening_answer, skipped_by, turned_open, turned_with, with_count}
 use Rattle.rdlpp_read.specs.declared.conditions.Branch.{Branch}
 use Rattle.rdlpp_read.specs.declared.conditions.Branch.TheVariants.{Inner, Refused}
 use Rattle.rdlpp_read.specs.Buffer.{BufferView, EndsHeld, IsBuffer, unused_of}

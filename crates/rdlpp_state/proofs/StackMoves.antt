@@ -17,7 +17,7 @@ use Rattle.rdlpp_meaning.proofs.Directives.{added_end-in_line, in_line, line_end
 use Rattle.rdlpp_meaning.proofs.Skipping.{has_own_token}
 use Rattle.rdlpp_source.specs.declared.sources.Found.{Found}
 use Rattle.rdlpp_read.specs.Conditions.{ConditionsView, own_conditions, place_of}
-use Rattle.rdlpp_read.specs.Moves.{closed_one, opened_with, turned_open, turned_with, with_inner as with_count}
+use Rattle.rdlpp_read.specs.ConditionMoves.{closed_one, opened_with, turned_open, turned_with, with_count}
 use Rattle.rdlpp_read.specs.Buffer.{ahead_of, held_of, opened_buffer, rest_of, text_left, tokens_left, unread_of}
 use Rattle.rdlpp_read.specs.Files.{consumed_file, ends_mid_line_after, entered_file, inner_buffer, shift_of, with_inner}
 use Rattle.rdlpp_read.specs.declared.files.File.{File}

@@ -12,7 +12,7 @@ use Rattle.rdlpp_meaning.specs.Meaning.{Holds, TestFault, Test, opening_within}
 use Rattle.rdlpp_meaning.specs.Outcome.{Report}
 use Rattle.rdlpp_meaning.specs.State.{State, fault_at}
 use Rattle.rdlpp_read.specs.Conditions.{ConditionsView, conditions_left}
-use Rattle.rdlpp_read.specs.Moves.{opened_with}
+use Rattle.rdlpp_read.specs.ConditionMoves.{opened_with}
 use Rattle.rdlpp_read.specs.Files.{consumed_file, inner_buffer, with_inner}
 use Rattle.rdlpp_front.specs.SkippedText.{counts}
 use Rattle.rdlpp_front.specs.SourceItems.{IsDirective, IsNamed, IsUsage}

@@ -19,8 +19,8 @@ use Rattle.rdlpp_scan.specs.Names.{is_name}
 use Rattle.rdlpp_table.specs.declared.fault.DefineKind.{DefineKind}
 use Rattle.rdlpp_table.specs.declared.fault.DefineFault.{DefineFault}
 use Rattle.rdlpp_table.specs.Table.{Formal, Macro, formal_bytes, macro_bytes, macro_size}
-use Rattle.rdlpp_lines.specs.Continuations.{joined}
-use Rattle.rdlpp_lines.specs.Texts.{Cleared, Sound, Unsound, onto, trimmed_left, trimmed_len, trims, cleared, told, read_by, left_in, kept_bytes, start_level}
+use Rattle.rdlpp_scan.specs.Continuations.{joined}
+use Rattle.rdlpp_scan.specs.Texts.{Cleared, Sound, Unsound, onto, trimmed_left, trimmed_len, trims, cleared, told, read_by, left_in, kept_bytes, start_level}
 use Rattle.rdlpp_table.specs.Define.{Draft, Drawn, DraftFault, lexical, observed, macro_set, name_fault, refused_word, set_of, stored, stored_draft, trimmed, with_body, without_list, text_without_line_comments, FormalFault, DefaultText, Good, Listed, FormalListFault, after_name, default_in, formal_fault, formal_in, formal_name, formals_in, formals_of_list, is_nothing, with_default}
 use Rattle.rdlpp_table.proofs.Taken.{between_parts}
 use Rattle.rdlpp_table.proofs.RoundTrip.{refused_is, read_list}
@@ -32,7 +32,7 @@ use Rattle.rdlpp_table.proofs.Defaults.{default_in_clean, drawn_clean}
 use Rattle.rdlpp_table.proofs.Reading.{fault_three, formal_by, in_by, list_by, list_full, list_step, three}
 use Rattle.rdlpp_table.specs.PointCache.{cached_points}
 use Rattle.rdlpp_table.specs.declared.point_cache.PointCache.{PointCache}
-use Rattle.rdlpp_lines.proofs.Measures.{left_len}
+use Rattle.rdlpp_scan.proofs.Measures.{left_len}
 use Rattle.rdlpp_table.specs.declared.entry.Entry.{Entry}
 use Rattle.rdlpp_table.specs.Formals.{IsRead, listed}
 use Rattle.rdlpp_table.specs.FormalOffsets.{macro_offsets, offsets_of}

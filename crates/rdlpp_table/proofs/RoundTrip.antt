@@ -10,9 +10,9 @@ use Rattle.std.proofs.lemmas.Slice.Eq.{bytes_eq-Decides}
 use Rattle.rdlpp_scan.specs.Bytes.{is_letter, is_word}
 use Rattle.rdlpp_scan.specs.Reserved.{is_reserved}
 use Rattle.rdlpp_scan.proofs.Seams.{word_ten}
-use Rattle.rdlpp_lines.specs.Continuations.{joined}
-use Rattle.rdlpp_lines.specs.Texts.{text_after}
-use Rattle.rdlpp_lines.proofs.Joins.{SameRun, first_in, first_out, joined_none, same_run, word_back}
+use Rattle.rdlpp_scan.specs.Continuations.{joined}
+use Rattle.rdlpp_scan.specs.Texts.{text_after}
+use Rattle.rdlpp_scan.proofs.Joins.{SameRun, first_in, first_out, joined_none, same_run, word_back}
 use Rattle.rdlpp_table.specs.Define.{Accepted, Draft, FormalList, Listed, DefinedFault, DraftFault, FormalListFault, after_space, define_of, formal_list, formals_of_list, is_space, leading_name, logical_text, macro_from, macro_of, name_fault, observed, refused_word, stored, stored_draft, unended, with_body, with_list}
 use Rattle.rdlpp_table.specs.Entries.{offsets_len}
 use Rattle.rdlpp_table.specs.Formals.{IsPart}

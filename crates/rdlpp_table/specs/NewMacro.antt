@@ -5,8 +5,8 @@ use Rattle.std.specs.List.{list_all}
 use Rattle.rdlpp_table.specs.Table.{Formal, Macro, formal_size}
 use Rattle.rdlpp_table.specs.Define.{formals_of_list}
 use Rattle.rdlpp_table.specs.Formals.{listed}
-use Rattle.rdlpp_lines.specs.Continuations.{joined}
-use Rattle.rdlpp_lines.specs.Texts.{cleared, trimmed_left, trimmed_len, trims}
+use Rattle.rdlpp_scan.specs.Continuations.{joined}
+use Rattle.rdlpp_scan.specs.Texts.{cleared, trimmed_left, trimmed_len, trims}
 use Rattle.rdlpp_table.specs.declared.point_cache.PointCache.{PointCache}
 use Rattle.rdlpp_table.specs.PointCache.{cached_points}
 use Rattle.rdlpp_table.specs.Store.{formals_read, is_plain_formal}

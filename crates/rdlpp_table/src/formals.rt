@@ -24,7 +24,7 @@ ghost use Rattle.std.specs.Prelude.{
   ◌∷◌,
 };
 ghost use Rattle.std.specs.List.{flat_map};
-ghost use Rattle.rdlpp_lines.specs.Continuations.{joined};
+ghost use Rattle.rdlpp_scan.specs.Continuations.{joined};
 ghost use Rattle.rdlpp_table.specs.Define.{default_in, formals_in, formals_of_list, FormalListFault};
 ghost use Rattle.rdlpp_table.specs.Formals.{after_told, default_after, fault_after, formal_told, is_told, listed, IsDefault, IsPart, IsRead};
 ghost use Rattle.rdlpp_table.specs.Table.{formal_bytes, formal_size, Formal};
@@ -33,7 +33,7 @@ use crate::fault::DefineKind;
 use crate::header::{after_space, leading_name};
 use crate::name::MOST_NAME_BYTES;
 use arrayvec::ArrayVec;
-use rdlpp_lines::{append_part, append_trimmed, split_first, trimmed_len};
+use rdlpp_scan::{append_part, append_trimmed, split_first, trimmed_len};
 
 // The most formals of a macro (this project's profile).
 const MOST_FORMALS: usize = 255;

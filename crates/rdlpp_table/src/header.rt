@@ -1,11 +1,10 @@
 // The header of a definition: white space, a name, and whether a formal list follows.
 ghost use Rattle.std.specs.Prelude.{length, true, IfSome, MatchOption, None, ◌≡◌, ◌≤◌};
 ghost use Rattle.rdlpp_scan.specs.SourceTokens.{logical_len};
-ghost use Rattle.rdlpp_lines.specs.Continuations.{joined};
+ghost use Rattle.rdlpp_scan.specs.Continuations.{joined};
 ghost use Rattle.rdlpp_table.specs.Define.{after_space, formal_list, formals_of_list, leading_name, unended, Listed};
 
-use rdlpp_lines::{is_space, split_first};
-use rdlpp_scan::{is_letter, logical_line, word_bytes};
+use rdlpp_scan::{is_letter, is_space, logical_line, split_first, word_bytes};
 
 // A logical line without the LF that ends it, where one does.
 #[tactic(auto, unfolding(crate::specs::Define::unended))]

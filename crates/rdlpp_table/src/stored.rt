@@ -5,8 +5,7 @@ ghost use Rattle.rdlpp_table.specs.Shapes.{shape};
 ghost use Rattle.rdlpp_table.specs.Store.{formal_read, formals_read, is_name_byte};
 ghost use Rattle.rdlpp_table.specs.View.{formal_at, formal_named};
 
-use rdlpp_lines::after_default;
-use rdlpp_scan::byte_at;
+use rdlpp_scan::{after_default, byte_at};
 
 // How many shapes names have.
 pub(crate) const SHAPES: usize = 256;

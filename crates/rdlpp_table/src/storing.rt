@@ -32,7 +32,7 @@ use crate::index::{Index, seek_named};
 use crate::offsets::StoredFormals;
 use crate::point_cache::cached_points;
 use crate::removal::{remove_named, settle, size_of_entry};
-use rdlpp_lines::{append_part, append_trimmed};
+use rdlpp_scan::{append_part, append_trimmed};
 
 // A macro that is to be stored: its body is read from a text, of a logical line or as it stands.
 #[derive(Clone, Copy, Drop)]

@@ -1,7 +1,7 @@
 // The table of macros: a list of bytes, one of entries and an index by name, all reserved when the table is made.
 ghost use Rattle.std.specs.Prelude.{◌≡◌, ◌≢◌, ◌<◌, ◌≤◌, ◌==◌, [], length, IfOk, IfSome, IfNone, Some, None, is_some, option_map, OnErr, true, unwrap_or, ◌+◌};
 ghost use Rattle.rdlpp_table.specs.NewMacro.{list_formals, new_macro, IsList, IsNew};
-ghost use Rattle.rdlpp_lines.specs.Continuations.{joined};
+ghost use Rattle.rdlpp_scan.specs.Continuations.{joined};
 ghost use Rattle.rdlpp_table.specs.Index.{IsCounted};
 ghost use Rattle.rdlpp_table.specs.Limits.{AreInRange};
 ghost use Rattle.rdlpp_table.specs.ExpansionPoints.{point_in};
@@ -27,8 +27,7 @@ use crate::point::{ExpansionPoint, next_expansion_point};
 use crate::point_cache::cached_point;
 use crate::removal::remove_named;
 use crate::storing::{NewMacro, replace, usage_without};
-use rdlpp_lines::trimmed_len;
-use rdlpp_scan::is_name;
+use rdlpp_scan::{is_name, trimmed_len};
 use std::alloc::Global;
 use std::marker::Model;
 

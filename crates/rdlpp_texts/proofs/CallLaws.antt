@@ -20,7 +20,7 @@ use Rattle.rdlpp_meaning.specs.TextTokens.{text_tokens}
 use Rattle.rdlpp_meaning.specs.declared.fault.FaultKind.{FaultKind}
 use Rattle.rdlpp_meaning.specs.declared.fault.FaultKind.TheVariants.{ArgumentsMissing, ArgumentsOpen}
 use Rattle.rdlpp_meaning.proofs.ReadCalls.{after_cut}
-use Rattle.rdlpp_meaning.proofs.LiteralSubstitution.{body_covered}
+use Rattle.rdlpp_meaning.proofs.BodyTokens.{body_covered}
 use Rattle.rdlpp_meaning.proofs.KeptTexts.{body_text, closes_text, first_spelled, is_one_role, text_after, text_cut, text_one, text_step}
 use Rattle.rdlpp_texts.specs.CallParts.{ends_call, ends_text, inner_size, inner_tokens, opener_by, opener_from}
 

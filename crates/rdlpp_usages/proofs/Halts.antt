@@ -18,7 +18,7 @@ use Rattle.rdlpp_scan.specs.Pieces.{is_open}
 use Rattle.rdlpp_scan.specs.Reserved.{is_reserved, reserved_names}
 use Rattle.rdlpp_scan.proofs.Seams.{Seam, Closed, BeforePerl, OpenString, OpenComment}
 use Rattle.rdlpp_texts.proofs.QuickTokens.{front_byte}
-use Rattle.rdlpp_scan.proofs.StopKinds.{block_token-kind, Row, AtPerl, AtLineComment, AtBlockComment, AtString, AtBack, AtBare, AtPlain, token_of-row}
+use Rattle.rdlpp_scan.proofs.StopKinds.{block_token-kind, Row, AtPerl, AtLineComment, AtBlockComment, AtString, AtBack, AtBare, AtPlain, token_of-row, row-string}
 use Rattle.rdlpp_scan.proofs.TokenLens.{token_of-part}
 use Rattle.rdlpp_scan.proofs.TokenSteps.{is_kept_kind, back_held, next_held}
 use Rattle.rdlpp_meaning.specs.declared.fault.FaultKind.TheVariants.{ArgumentsMissing, EmbeddedPerl}
@@ -28,7 +28,6 @@ use Rattle.rdlpp_meaning.specs.CallScan.{CallState, Before, Inside, Keeps, turn,
 use Rattle.rdlpp_meaning.specs.Expansion.{bytes_of, usage_token}
 use Rattle.rdlpp_meaning.specs.Parts.{directive_of, tokenless_worded}
 use Rattle.rdlpp_meaning.proofs.ReadCalls.{BrokenRest, IsRest, WholeRest, comment_part_before, comment_remains, open_comment_before, open_string_before, part_inside, string_before, string_remains}
-use Rattle.rdlpp_meaning.proofs.LargerRuns.{row-string}
 use Rattle.rdlpp_usages.specs.CallActions.{Around, IsAround, tokens_at, tokens_after}
 use Rattle.rdlpp_scan.specs.declared.token.Directive.{Directive}
 use Rattle.rdlpp_meaning.specs.State.{breach_kind}

@@ -7,8 +7,8 @@ ghost use Rattle.rdlpp_state.specs.Searches.{Retries, StartsAgain, begins_includ
 ghost use Rattle.rdlpp_state.specs.Steps.{is_call_failed, may_follow};
 
 use super::Engine;
-use super::words::INCLUDE;
 use rdlpp_meaning::{Fault, FaultKind};
+use rdlpp_scan::Directive;
 use rdlpp_source::Sources;
 use rdlpp_state::Phase;
 
@@ -78,7 +78,7 @@ impl<S: Sources> Engine<S> {
     fn is_at_include(&self) -> bool
         ensures { result ≡ (may_follow self.now.phase && begins_include (held_of (inner_buffer self.now.files.include_stack))) }
     {
-        has_open(self.phase) && self.front().starts_with(INCLUDE)
+        has_open(self.phase) && self.front().starts_with(Directive::Include.word())
     }
 }
 

@@ -2,7 +2,7 @@
 ghost use Rattle.std.specs.Prelude.{◌≡◌, ◌⊎◌, ◌+◌, ◌<◌, ◌≤◌, Bool, None, IfSome, length};
 ghost use Rattle.rdlpp_scan.specs.declared.token.Directive.TheVariants.{Endif};
 ghost use Rattle.rdlpp_read.specs.Conditions.{place_of};
-ghost use Rattle.rdlpp_read.specs.Moves.{IsBranch, turned_with};
+ghost use Rattle.rdlpp_read.specs.ConditionMoves.{IsBranch, turned_with};
 ghost use Rattle.rdlpp_read.specs.Buffer.{held_of};
 ghost use Rattle.rdlpp_read.specs.Files.{inner_buffer};
 ghost use Rattle.rdlpp_front.specs.SourceItems.{IsDirective, IsNamed, given_len};
@@ -14,7 +14,6 @@ ghost use Rattle.rdlpp_state.specs.Pieces.{IsPlaced, step_answer};
 ghost use Rattle.rdlpp_state.specs.Steps.{UncutStep};
 
 use super::Engine;
-use super::words::{ELSE_BYTES, ELSIF_BYTES, ENDIF_BYTES};
 use rdlpp_front::Argument;
 use rdlpp_meaning::FaultKind;
 use rdlpp_read::Branch;
@@ -142,7 +141,7 @@ impl<S: Sources> Engine<S> {
         match self.conditions.close(below) {
             Err(kind) => Some(self.record_fault(kind)),
             Ok(()) => {
-                self.consume(ENDIF_BYTES, 0);
+                self.consume(Directive::Endif.word_len(), 0);
                 None
             }
         }
@@ -156,16 +155,12 @@ fn test_of(defined: bool, found: bool) -> bool
     if defined { found } else { !found }
 }
 
-// How many bytes an `elsif` or `else` has with what it is given.
+// How many bytes the word of a branch has with what it is given.
 fn branch_len(word: Directive, argument: Option<Argument>) -> usize
-    requires { (word ≡ Directive.Elsif) ⊎ (word ≡ Directive.Else) }
     ensures { result ≡ given_len word argument }
 {
     match argument {
         Some(given) => given.stop,
-        None => match word {
-            Directive::Else => ELSE_BYTES,
-            _ => ELSIF_BYTES,
-        },
+        None => word.word_len(),
     }
 }

@@ -12,11 +12,10 @@ ghost use Rattle.rdlpp_state.specs.Pieces.{IsPlaced, step_answer};
 ghost use Rattle.rdlpp_state.specs.Steps.{UncutStep};
 
 use super::Engine;
-use super::words::LINE_BYTES;
 use arrayvec::ArrayString;
 use rdlpp_front::{GivenLine, given_line};
 use rdlpp_meaning::FaultKind;
-use rdlpp_scan::{Mode, line_ends_in};
+use rdlpp_scan::{Directive, Mode, line_ends_in};
 use rdlpp_source::Sources;
 use rdlpp_state::PieceLocation;
 
@@ -36,7 +35,7 @@ impl<S: Sources> Engine<S> {
         if !file.blanks {
             return Some(self.record_fault(FaultKind::BadLine));
         }
-        match given_line(&file.buffer.held()[LINE_BYTES..]) {
+        match given_line(&file.buffer.held()[Directive::Line.word_len()..]) {
             None => Some(self.record_fault(FaultKind::BadLine)),
             Some(given) => {
                 self.renumber(given);
@@ -54,7 +53,7 @@ impl<S: Sources> Engine<S> {
         requires nothing { self.old.pending ≡ nothing_pending }
         ensures { Renumbers given self.old self.new }
     {
-        let len = LINE_BYTES + given.stop;
+        let len = Directive::Line.word_len() + given.stop;
         let buffer = &self.files.file().buffer;
         let lines = line_ends_in(&buffer.held()[..len]);
         let from = buffer.line() + 1;

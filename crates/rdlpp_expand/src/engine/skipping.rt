@@ -13,7 +13,6 @@ ghost use Rattle.rdlpp_state.specs.Pieces.{IsPlaced, step_answer};
 ghost use Rattle.rdlpp_state.specs.Steps.{UncutStep};
 
 use super::Engine;
-use super::words::{IFDEF_BYTES, IFNDEF_BYTES, INCLUDE_BYTES, UNDEF_BYTES};
 use rdlpp_front::{SourceItem, next_item, skip_text};
 use rdlpp_meaning::FaultKind;
 use rdlpp_read::LogicalLine;
@@ -61,8 +60,8 @@ impl<S: Sources> Engine<S> {
             SourceItem::Line => self.skip_line(),
             SourceItem::Refused(kind) => self.skip_refused(kind),
             SourceItem::Usage(len) => self.skip_word(len),
-            SourceItem::Undef(_) => self.skip_word(UNDEF_BYTES),
-            SourceItem::Include(_) => self.skip_word(INCLUDE_BYTES),
+            SourceItem::Undef(_) => self.skip_word(Directive::Undef.word_len()),
+            SourceItem::Include(_) => self.skip_word(Directive::Include.word_len()),
         }
     }
 
@@ -185,5 +184,10 @@ impl<S: Sources> Engine<S> {
 fn opening_len(defined: bool) -> usize
     ensures { result ≡ length (directive_word (opening_word defined)) }
 {
-    if defined { IFDEF_BYTES } else { IFNDEF_BYTES }
+    let word = if defined {
+        Directive::Ifdef
+    } else {
+        Directive::Ifndef
+    };
+    word.word_len()
 }

@@ -1,6 +1,6 @@
 use Rattle.std.proofs.Common.{not, refl, sym, ◌∙◌}
 use Rattle.rdlpp_read.specs.Conditions.{progress_of}
-use Rattle.rdlpp_read.proofs.Stacks.{turn_else, turn_named, turn_refused, turn_taken}
+use Rattle.rdlpp_read.proofs.ConditionStacks.{turn_else, turn_named, turn_refused, turn_taken}
 use Rattle.rdlpp_read.proofs.conditions.branch_of.Goals as goal
 
 pub returns-then-progress : goal.returns-then-progress

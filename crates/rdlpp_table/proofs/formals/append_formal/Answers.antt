@@ -1,5 +1,5 @@
 use Rattle.std.proofs.Common.{◌≡◌, ◌≤◌, ℕ, List, true, false, length, length-append, get_or, eqb, vec_capacity, Vec, Global, ap, ◌∙◌, arith, ne_eqb}
-use Rattle.rdlpp_lines.specs.Continuations.{joined}
+use Rattle.rdlpp_scan.specs.Continuations.{joined}
 use Rattle.rdlpp_table.proofs.Sizes.{count_items}
 use Rattle.rdlpp_table.proofs.Reading.{IsMid, IsTold, told_is, told_default, mid_long, mid_short, mid_length, after_comma, after_other}
 use Rattle.rdlpp_table.proofs.formals.append_formal.Goals as goal

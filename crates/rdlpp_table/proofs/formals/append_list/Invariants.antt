@@ -1,5 +1,5 @@
 use Rattle.std.proofs.Common.{◌≡◌, true, vec_capacity, length}
-use Rattle.rdlpp_lines.specs.Continuations.{joined}
+use Rattle.rdlpp_scan.specs.Continuations.{joined}
 use Rattle.rdlpp_table.proofs.Reading.{IsAppended}
 use Rattle.rdlpp_table.proofs.formals.append_list.Given as goal
 

@@ -1,8 +1,8 @@
 use Rattle.std.proofs.Common.{◌≡◌, ℕ, List, Option, None, get_or, eqb, true, refl, ap, subst, sym, ◌∙◌, eq-eqb, ne_eqb, false, MatchOption}
-use Rattle.rdlpp_lines.specs.Continuations.{joined}
+use Rattle.rdlpp_scan.specs.Continuations.{joined}
 use Rattle.rdlpp_table.specs.Define.{DefaultText}
 use Rattle.rdlpp_table.specs.Formals.{IsDefault}
-use Rattle.rdlpp_lines.proofs.Joins.{joined_none}
+use Rattle.rdlpp_scan.proofs.Joins.{joined_none}
 use Rattle.rdlpp_table.proofs.Defaults.{default_at, no_default_at}
 use Rattle.rdlpp_table.proofs.formals.default_in.Goals as goal
 use Rattle.rdlpp_table.proofs.formals.default_in.Goals.{in-Some+else-b-eq61, in_default}

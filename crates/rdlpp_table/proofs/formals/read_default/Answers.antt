@@ -1,6 +1,6 @@
 use Rattle.std.proofs.Common.{◌≡◌, ◌<◌, length, eqb, ◌+◌, ◌∙◌, sym, arith, eq-eqb, ne_eqb, true, eqb-true}
 use Rattle.std.proofs.lemmas.Bool.{cond-true, cond-false, eqb-false}
-use Rattle.rdlpp_lines.proofs.Joins.{none_first, reads_first}
+use Rattle.rdlpp_scan.proofs.Joins.{none_first, reads_first}
 use Rattle.rdlpp_table.proofs.Defaults.{default_fault, default_endless, default_found, size_by}
 use Rattle.rdlpp_table.proofs.formals.read_default.Goals as goal
 use Rattle.rdlpp_table.proofs.formals.read_default.Goals.{then-measured-eq0, else-measured-eq0}

@@ -1,5 +1,5 @@
 use Rattle.std.proofs.Common.{◌≡◌, ℕ, List, get_or, eqb, false, true, ap, sym, ◌∙◌, subst, ne_eqb, MatchResult}
-use Rattle.rdlpp_lines.specs.Continuations.{joined}
+use Rattle.rdlpp_scan.specs.Continuations.{joined}
 use Rattle.rdlpp_table.specs.Table.{Formal}
 use Rattle.rdlpp_table.specs.Define.{FormalList, FormalListFault, after_space}
 use Rattle.rdlpp_table.specs.Formals.{IsRead}

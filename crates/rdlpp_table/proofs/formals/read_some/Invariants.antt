@@ -1,5 +1,5 @@
 use Rattle.std.proofs.Common.{◌≤◌, ◌+◌, true, length, map}
-use Rattle.rdlpp_lines.specs.Continuations.{joined}
+use Rattle.rdlpp_scan.specs.Continuations.{joined}
 use Rattle.rdlpp_table.proofs.Reading.{IsReading}
 use Rattle.rdlpp_table.proofs.formals.read_some.Given as goal
 

@@ -1,5 +1,5 @@
 use Rattle.std.proofs.Common.{◌≡◌, ◌≤◌, true, length}
-use Rattle.rdlpp_lines.specs.Continuations.{joined}
+use Rattle.rdlpp_scan.specs.Continuations.{joined}
 use Rattle.rdlpp_table.specs.Define.{after_space}
 use Rattle.rdlpp_table.proofs.header.after_space.Given as goal
 

@@ -27,7 +27,7 @@ returns-in-Ok-clause-reads g c =
     let held : c.held.result.now ≡ held_of (inner_buffer e.files.include_stack) = c.held.ensures.value ∙ ap held_of (c.file-file.ensures.buffer ∙ ap (λ e. inner_buffer e.files.include_stack) c.self.view_is) in
     let inside : c.held.result.now ≡ held_of (inner_buffer c.self.inside.files.include_stack) = c.held.ensures.value ∙ ap held_of c.file-file.ensures.buffer in
     let wide : length (take c.args.len c.held.result.now) ≡ c.args.len = length-take-le c.args.len c.held.result.now (rw held c.requires.inside) in
-    let rest = after_word (take c.args.len c.held.result.now) c.args.len c.min.result wide c.min.ensures in
+    let rest = after_word (take c.args.len c.held.result.now) c.args.len c.min.result wide (rw (c.word_len.ensures) at c.min.ensures) in
     let accepted : define_of e.table.most_bytes e.table.most_macros e.table.macros (define_rest e c.args.len) ≡ Accepted c.read_define.new.self.macros =
     rw (← c.self.view_is) (defined_same _ _ _ _ _ _ c.in-Ok.ensures.outcome (rest ∙ ap (λ h. drop 7 (take c.args.len h)) inside)) in
     let counted : c.line_ends_in-lines.result ≡ line_ends (take c.args.len (held_of (inner_buffer e.files.include_stack))) = c.line_ends_in-lines.ensures ∙ ap (λ h. line_ends (take c.args.len h)) held in

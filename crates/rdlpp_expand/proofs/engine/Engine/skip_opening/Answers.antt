@@ -1,5 +1,5 @@
 use Rattle.std.proofs.Common.{◌≡◌, ℕ, ◌+◌, ◌≤◌, Some, length, ap, ◌∙◌, arith}
-use Rattle.rdlpp_read.specs.Moves.{with_inner as with_count}
+use Rattle.rdlpp_read.specs.ConditionMoves.{with_count}
 use Rattle.rdlpp_read.specs.Buffer.{held_of}
 use Rattle.rdlpp_read.specs.Files.{inner_buffer}
 use Rattle.rdlpp_state.specs.Conditionals.{goes_past, opening_word}

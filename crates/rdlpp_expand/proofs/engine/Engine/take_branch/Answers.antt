@@ -1,6 +1,6 @@
 use Rattle.std.proofs.Common.{◌≡◌, sym, ap, ◌∙◌, arith}
 use Rattle.rdlpp_read.specs.Conditions.{place_of}
-use Rattle.rdlpp_read.specs.Moves.{IsBranch}
+use Rattle.rdlpp_read.specs.ConditionMoves.{IsBranch}
 use Rattle.rdlpp_read.specs.declared.conditions.Branch.TheVariants.{Decided, Inner, Refused}
 use Rattle.rdlpp_state.specs.Conditionals.{goes_past}
 use Rattle.rdlpp_state.specs.OpenConditionals.{inner_below}

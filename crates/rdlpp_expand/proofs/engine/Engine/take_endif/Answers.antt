@@ -2,7 +2,7 @@ use Rattle.std.proofs.Common.{◌≡◌, Some, Ok, Err, [], sym, ap, ◌∙◌, 
 use Rattle.rdlpp_scan.specs.declared.token.Directive.TheVariants.{Endif}
 use Rattle.rdlpp_meaning.specs.State.{fault_at}
 use Rattle.rdlpp_read.specs.Conditions.{place_of}
-use Rattle.rdlpp_read.specs.Moves.{Closes}
+use Rattle.rdlpp_read.specs.ConditionMoves.{Closes}
 use Rattle.rdlpp_read.specs.Buffer.{held_of}
 use Rattle.rdlpp_read.specs.Files.{inner_buffer}
 use Rattle.rdlpp_state.specs.Conditionals.{goes_past}
@@ -40,7 +40,7 @@ invariant_of-self-in-Ok g c =
 
 pub consume-requires-clause-inside : goal.consume-requires-clause-inside
 consume-requires-clause-inside g c =
-    rw (← c.self.view_is) at (word_within Endif (held_of (inner_buffer c.args.self.now.files.include_stack)) c.requires.closing c.requires.some).1
+    rw (c.word_len.ensures) (rw (← c.self.view_is) at (word_within Endif (held_of (inner_buffer c.args.self.now.files.include_stack)) c.requires.closing c.requires.some).1)
 
 pub returns-in-Ok-clause-uncut_step : goal.returns-in-Ok-clause-uncut_step
 unfolding goes_past
@@ -49,4 +49,4 @@ returns-in-Ok-clause-uncut_step g c = λ bounded.
     let below : c.file.result.now.conditions_below ≡ inner_below c.args.self.now.files.include_stack = sym (ap inner_below c.file.ensures.inner) ∙ ap (λ e. inner_below e.files.include_stack) c.self.view_is in
     end_closes g.S.Sources e c.consume.new.self c.requires.ready bounded c.requires.some c.requires.mode _ c.in-Ok.field-0 c.close.new.self
     (ends_here {A = Unit {0}} (Ok c.in-Ok.field-0) e c.close.new.self c.requires.ready c.file.result.now.conditions_below below
-    (let h : Closes {A = Unit {0}} (place_of c.file.result.now.conditions_below e.conditions) (Ok c.in-Ok.field-0) e.conditions c.close.new.self = rw (← c.self.view_is) c.in-Ok.ensures in h)) c.requires.closing (rw (← c.self.view_is) c.consume.ensures.used)
+    (let h : Closes {A = Unit {0}} (place_of c.file.result.now.conditions_below e.conditions) (Ok c.in-Ok.field-0) e.conditions c.close.new.self = rw (← c.self.view_is) c.in-Ok.ensures in h)) c.requires.closing (rw (← c.self.view_is) (rw (c.word_len.ensures) at c.consume.ensures.used))

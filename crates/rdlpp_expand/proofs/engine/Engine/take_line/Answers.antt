@@ -26,7 +26,8 @@ pub returns-in-None-clause-uncut_step : goal.returns-in-None-clause-uncut_step
 returns-in-None-clause-uncut_step g c = λ bounded.
     let e = c.args.self.now in
     let held : c.held.result.now ≡ held_of (inner_buffer e.files.include_stack) = c.held.ensures.value ∙ ap held_of (c.file-file.ensures.buffer ∙ ap (λ e. inner_buffer e.files.include_stack) c.self.view_is) in
-    let bad = subst (λ (x : List ℕ). renumbered (take (line_len x) x) ≡ None) (take_rest c.held.result.now 5 ∙ ap (λ (x : List ℕ). drop 5 x) held) c.in-None.ensures in
+    let word : c.word_len.result ≡ 5 = c.word_len.ensures in
+    let bad = subst (λ (x : List ℕ). renumbered (take (line_len x) x) ≡ None) (take_rest c.held.result.now 5 ∙ ap (λ (x : List ℕ). drop 5 x) held) (rw word at c.in-None.ensures) in
     refuses g.S.Sources e e c.record_fault-in-None.new.self c.record_fault-in-None.result fault.BadLine _ [] c.requires.ready (read_nothing e) bounded c.record_fault-in-None.ensures.place
     c.record_fault-in-None.ensures.kept (own_kind _ refl) (not_called g.S.Sources e.sources)
     (λ t. left_bad_line g.S.Sources e c.requires.ready c.requires.live c.requires.some c.requires.mode c.requires.line bad)
@@ -43,7 +44,8 @@ returns-in-Some-clause-uncut_step g c = λ bounded.
     let h = held_of (inner_buffer e.files.include_stack) in
     let held : c.held.result.now ≡ h = c.held.ensures.value ∙ ap held_of (c.file-file.ensures.buffer ∙ ap (λ e. inner_buffer e.files.include_stack) c.self.view_is) in
     let first : inner_blanks e.files.include_stack ≡ true = ap inner_blanks (ap (λ e. e.files.include_stack) (sym c.self.view_is) ∙ c.file-file.ensures.inner) ∙ c.if-not-file.false in
-    let has : LineGiven (drop 5 h) c.in-Some.given = subst (λ (x : List ℕ). LineGiven x c.in-Some.given) (take_rest c.held.result.now 5 ∙ ap (λ (x : List ℕ). drop 5 x) held) c.in-Some.ensures in
+    let word : c.word_len.result ≡ 5 = c.word_len.ensures in
+    let has : LineGiven (drop 5 h) c.in-Some.given = subst (λ (x : List ℕ). LineGiven x c.in-Some.given) (take_rest c.held.result.now 5 ∙ ap (λ (x : List ℕ). drop 5 x) held) (rw word at c.in-Some.ensures) in
     let inside = has.inside in
     let whole = word_held h c.requires.some c.requires.line in
     take_renumbered g.S.Sources e c.renumber.new.self c.in-Some.given c.requires.ready c.requires.live bounded c.requires.some c.requires.mode c.requires.line first has (omega arith) c.renumber.ensures

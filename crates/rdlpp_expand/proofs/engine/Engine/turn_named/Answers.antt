@@ -5,7 +5,7 @@ use Rattle.rdlpp_read.specs.Buffer.{held_of}
 use Rattle.rdlpp_read.specs.Files.{inner_buffer}
 use Rattle.rdlpp_front.specs.SourceItems.{argument_name}
 use Rattle.rdlpp_front.proofs.NamedDirectives.{begins_within}
-use Rattle.rdlpp_read.specs.Moves.{turned_with}
+use Rattle.rdlpp_read.specs.ConditionMoves.{turned_with}
 use Rattle.rdlpp_read.specs.declared.conditions.Branch.TheVariants.{Named}
 use Rattle.rdlpp_state.specs.Conditionals.{IsGivenBranch, goes_past}
 use Rattle.rdlpp_state.specs.Moves.{LooksAtName}

@@ -3,8 +3,8 @@ use Rattle.rdlpp_meaning.specs.declared.fault.FaultKind.TheVariants.{StrayBranch
 use Rattle.rdlpp_meaning.specs.Resumed.{Place}
 use Rattle.rdlpp_read.specs.declared.conditions.Branch.TheVariants.{Inner, Refused}
 use Rattle.rdlpp_read.specs.Conditions.{ConditionsView, progress_of}
-use Rattle.rdlpp_read.specs.Moves.{IsBranch}
-use Rattle.rdlpp_read.proofs.Stacks.{branch_inner, branch_own, count_seen, place_any, place_none, place_some}
+use Rattle.rdlpp_read.specs.ConditionMoves.{IsBranch}
+use Rattle.rdlpp_read.proofs.ConditionStacks.{branch_inner, branch_own, count_seen, place_any, place_none, place_some}
 use Rattle.rdlpp_read.proofs.conditions.Conditions.branch.Goals as goal
 
 pub returns-then-len-below : goal.returns-then-len-below

@@ -3,8 +3,8 @@ use Rattle.rdlpp_meaning.specs.declared.fault.FaultKind.TheVariants.{StrayBranch
 use Rattle.rdlpp_meaning.specs.Meaning.{Progress}
 use Rattle.rdlpp_meaning.specs.Resumed.{Place}
 use Rattle.rdlpp_read.specs.Conditions.{ConditionsView, seen_of}
-use Rattle.rdlpp_read.specs.Moves.{Closes, closed_one, with_inner}
-use Rattle.rdlpp_read.proofs.Stacks.{closes_inner, closes_own, count_seen, place_any, place_none, rest_seen}
+use Rattle.rdlpp_read.specs.ConditionMoves.{Closes, closed_one, with_count}
+use Rattle.rdlpp_read.proofs.ConditionStacks.{closes_inner, closes_own, count_seen, place_any, place_none, rest_seen}
 use Rattle.rdlpp_read.proofs.conditions.Conditions.close.Goals as goal
 
 pub returns-then-len-below : goal.returns-then-len-below
@@ -28,7 +28,7 @@ returns-then-inner-gt0 c =
     let other = c.if-len-below.false in
     let below = c.requires in
     let after : ConditionsView = record { open_now = seen_of c.self.inside.open.items; skipped = Some (inner - 1); limit = c.self.inside.limit } in
-    let becomes : after ≡ with_inner (inner - 1) now = ap (with_inner (inner - 1)) c.self.view_is in
+    let becomes : after ≡ with_count (inner - 1) now = ap (with_count (inner - 1)) c.self.view_is in
     place_any (λ (p : Place). Closes {A = Unit {0}} p (Ok tt) now after) c.args.below now (omega arith)
     (λ o os. closes_inner now.skipped o os tt inner now after c.inner-inner.ensures c.if-inner-gt0.true becomes)
 

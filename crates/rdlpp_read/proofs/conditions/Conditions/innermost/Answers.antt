@@ -1,7 +1,7 @@
 use Rattle.std.proofs.Common.{◌≡◌, ◌∷◌, List, drop, length, sym, ap, ◌∙◌, arith}
 use Rattle.rdlpp_meaning.specs.Meaning.{Progress}
 use Rattle.rdlpp_read.specs.Conditions.{ConditionsView, progress_of, seen_of}
-use Rattle.rdlpp_read.proofs.Stacks.{count_seen, innermost_seen}
+use Rattle.rdlpp_read.proofs.ConditionStacks.{count_seen, innermost_seen}
 use Rattle.rdlpp_read.proofs.conditions.Conditions.innermost.Goals as goal
 
 pub overflow_sub-len : goal.overflow_sub-len

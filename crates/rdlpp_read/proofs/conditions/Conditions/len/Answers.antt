@@ -1,6 +1,6 @@
 use Rattle.std.proofs.Common.{ap, ◌∙◌}
 use Rattle.rdlpp_read.specs.Conditions.{ConditionsView}
-use Rattle.rdlpp_read.proofs.Stacks.{count_seen}
+use Rattle.rdlpp_read.proofs.ConditionStacks.{count_seen}
 use Rattle.rdlpp_read.proofs.conditions.Conditions.len.Goals as goal
 
 pub returns-clause-value : goal.returns-clause-value

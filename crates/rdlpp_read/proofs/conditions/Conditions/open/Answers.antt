@@ -1,8 +1,8 @@
 use Rattle.std.proofs.Common.{◌∷◌, ℕ, List, Option, ap, ◌∙◌, refl, arith, false}
 use Rattle.rdlpp_meaning.specs.Meaning.{Progress}
 use Rattle.rdlpp_read.specs.Conditions.{ConditionsView, seen_of}
-use Rattle.rdlpp_read.specs.Moves.{opened_with}
-use Rattle.rdlpp_read.proofs.Stacks.{count_seen, opens_none, opens_one, seen-push}
+use Rattle.rdlpp_read.specs.ConditionMoves.{opened_with}
+use Rattle.rdlpp_read.proofs.ConditionStacks.{count_seen, opens_none, opens_one, seen-push}
 use Rattle.rdlpp_read.proofs.conditions.Conditions.open.Goals as goal
 
 pub returns-then-len-self : goal.returns-then-len-self

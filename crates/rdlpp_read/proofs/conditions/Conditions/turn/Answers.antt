@@ -1,9 +1,9 @@
 use Rattle.std.proofs.Common.{◌≡◌, ◌-◌, ◌||◌, ℕ, List, length, Option, sym, ap, ◌∙◌, refl, arith, set}
 use Rattle.rdlpp_meaning.specs.Meaning.{Progress, is_else}
 use Rattle.rdlpp_read.specs.Conditions.{ConditionsView, seen_of}
-use Rattle.rdlpp_read.specs.Moves.{turned_open, turned_with}
+use Rattle.rdlpp_read.specs.ConditionMoves.{turned_open, turned_with}
 use Rattle.rdlpp_read.specs.declared.conditions.Progress.{Progress as StoredProgress}
-use Rattle.rdlpp_read.proofs.Stacks.{count_seen, turned_seen}
+use Rattle.rdlpp_read.proofs.ConditionStacks.{count_seen, turned_seen}
 use Rattle.rdlpp_read.proofs.conditions.Conditions.turn.Goals as goal
 use Rattle.rdlpp_read.proofs.conditions.Conditions.turn.Goals.{then-progress, else-progress}
 

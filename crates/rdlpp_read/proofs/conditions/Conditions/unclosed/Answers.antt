@@ -1,8 +1,8 @@
 use Rattle.std.proofs.Common.{drop, ap, ◌∙◌, refl, arith, None, Some}
 use Rattle.rdlpp_meaning.specs.Resumed.{Place}
 use Rattle.rdlpp_read.specs.Conditions.{ConditionsView, progress_of}
-use Rattle.rdlpp_read.specs.Moves.{IsUnclosed}
-use Rattle.rdlpp_read.proofs.Stacks.{count_seen, place_none, place_some, unclosed_some}
+use Rattle.rdlpp_read.specs.ConditionMoves.{IsUnclosed}
+use Rattle.rdlpp_read.proofs.ConditionStacks.{count_seen, place_none, place_some, unclosed_some}
 use Rattle.rdlpp_read.proofs.conditions.Conditions.unclosed.Goals as goal
 
 pub returns-then-len-below : goal.returns-then-len-below

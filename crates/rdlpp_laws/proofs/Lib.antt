@@ -1,0 +1,6 @@
+pub mod LiteralSubstitution
+pub mod TornCalls
+pub mod TornTokens
+pub mod LargerRuns
+pub mod LargerOutputs
+pub mod Rows

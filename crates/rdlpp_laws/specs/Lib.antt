@@ -1,0 +1,3 @@
+pub mod Literal
+pub mod LiteralLaws
+pub mod LimitLaws

@@ -1,3 +1,0 @@
-pub mod Joins
-pub mod Measures
-pub mod SimpleDefaults

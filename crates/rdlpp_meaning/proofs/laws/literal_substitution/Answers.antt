@@ -1,9 +1,0 @@
--- The laws that the function ensures.
-use Rattle.rdlpp_meaning.proofs.LiteralSubstitution.{body_covered, literal_substitution}
-use Rattle.rdlpp_meaning.proofs.laws.literal_substitution.Goals as goal
-
-pub returns-clause-substituted : goal.returns-clause-substituted
-returns-clause-substituted c = literal_substitution
-
-pub returns-clause-covered : goal.returns-clause-covered
-returns-clause-covered c = body_covered
