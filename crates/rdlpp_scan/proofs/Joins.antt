@@ -2,7 +2,7 @@
 use Rattle.std.proofs.Common.{◌≡◌, ℕ, suc, ◌+◌, ◌-◌, ◌<◌, ◌≤◌, Bool, true, false, cond, ◌&&◌, ◌⊎◌, List, [], ◌∷◌, length, take, drop, get_or, eqb, one-add, refl, ap, sym, ◌∙◌, subst, arith, inl, inr, zero, ltb, ◌≢◌, not, ◌||◌, eqb-true, lt-ltb, le-ltb, ltb-true, ne_eqb, drop-drop, length-drop}
 use Rattle.std.specs.List.{prefix_len}
 use Rattle.std.proofs.lemmas.Bool.{cases_Bool, cond-true, cond-false, and_parts, and_left, and_right, false≢true, false_from_ne_true, both_ways, cases_lt}
-use Rattle.rdlpp_scan.specs.Continuations.{continuation_len, without_continuations, joined, first_len}
+use Rattle.rdlpp_scan.specs.Continuations.{continuation_len, without_continuations, as_read, first_len}
 use Rattle.rdlpp_scan.specs.declared.token.Kind.{Kind}
 use Rattle.rdlpp_scan.specs.declared.token.Kind.TheVariants.{Name, Word, Back, Blank, LineEnd, Str, LineComment, BlockComment, Opener, Closer, Comma, Other, Perl, BareBackquote}
 use Rattle.rdlpp_scan.specs.declared.token.Mode.{Mode}
@@ -85,19 +85,19 @@ begins_with (b ∷ c ∷ cs) h =
 pub record ReadsFirst (is_logical : Bool) (text : List ℕ) (len : ℕ) : Type 0 where
   pub some : 0 < len
   pub inside : len ≤ length text
-  pub first : joined is_logical text ≡ get_or text (len - 1) 0 ∷ joined is_logical (drop len text)
+  pub first : as_read is_logical text ≡ get_or text (len - 1) 0 ∷ as_read is_logical (drop len text)
 
 plain_first : (text : List ℕ) → 0 < length text → text ≡ get_or text 0 0 ∷ drop 1 text
 plain_first [] h = absurd (omega arith)
 plain_first (b ∷ bs) h = refl
 
 pub reads_first : (is_logical : Bool) (text : List ℕ) → 0 < length text → ReadsFirst is_logical text (first_len is_logical text)
-unfolding joined first_len
+unfolding as_read first_len
 reads_first true text h = grind (arith, begins_with)
 reads_first false text h = record { some = omega arith; inside = omega arith; first = plain_first text h }
 
-pub none_first : (is_logical : Bool) (text : List ℕ) → length text ≡ 0 → joined is_logical text ≡ []
-unfolding joined without_continuations
+pub none_first : (is_logical : Bool) (text : List ℕ) → length text ≡ 0 → as_read is_logical text ≡ []
+unfolding as_read without_continuations
 none_first true [] h = refl
 none_first false [] h = refl
 none_first is_logical (b ∷ bs) h = absurd (omega arith)
@@ -117,21 +117,21 @@ reads_plain is_logical text h e =
     let Q : Bool → Type 0 = λ l. ReadsFirst l text 1 in
     subst Q (sym e) r
 
-pub no_joint_at : (b : ℕ) (bs : List ℕ) → eqb b 92 ≡ false → joined true (b ∷ bs) ≡ b ∷ joined true bs
-unfolding joined
+pub no_joint_at : (b : ℕ) (bs : List ℕ) → eqb b 92 ≡ false → as_read true (b ∷ bs) ≡ b ∷ as_read true bs
+unfolding as_read
 no_joint_at b bs e = no_joint b bs (no_continuation b bs e)
 
 pub none_left : without_continuations 0 [] ≡ []
 unfolding without_continuations
 none_left = refl
 
-pub joined_none : joined true [] ≡ []
-unfolding joined without_continuations
+pub joined_none : as_read true [] ≡ []
+unfolding as_read without_continuations
 joined_none = refl
 
 -- the first byte of a class that has neither LF nor a backslash isn't touched by a continuation
-pub first_out : (test : ℕ → Bool) → test 10 ≡ false → (b : ℕ) (bs : List ℕ) → test b ≡ false → test (get_or (joined true (b ∷ bs)) 0 0) ≡ false
-unfolding joined
+pub first_out : (test : ℕ → Bool) → test 10 ≡ false → (b : ℕ) (bs : List ℕ) → test b ≡ false → test (get_or (as_read true (b ∷ bs)) 0 0) ≡ false
+unfolding as_read
 first_out test line b bs e =
     let w : BeginsWith (b ∷ bs) (continuation_len (b ∷ bs)) = begins_with (b ∷ bs) (omega arith) in
     let n : ℕ = continuation_len (b ∷ bs) in
@@ -141,15 +141,15 @@ first_out test line b bs e =
     ] in
     ap (λ (l : List ℕ). test (get_or l 0 0)) w.first ∙ out
 
-pub first_in : (test : ℕ → Bool) → test 92 ≡ false → (b : ℕ) (bs : List ℕ) → test b ≡ true → joined true (b ∷ bs) ≡ b ∷ joined true bs
+pub first_in : (test : ℕ → Bool) → test 92 ≡ false → (b : ℕ) (bs : List ℕ) → test b ≡ true → as_read true (b ∷ bs) ≡ b ∷ as_read true bs
 first_in test back b bs e =
     no_joint_at b bs (false_from_ne_true (eqb b 92) (λ h. both_ways (test 92) back (ap test (sym (eqb-true b 92 h)) ∙ e)))
 
--- a run of a class that has neither LF nor a backslash is the same where continuations are joined
+-- a run of a class that has neither LF nor a backslash is the same where continuations are read as their LF
 pub record SameRun (test : ℕ → Bool) (text : List ℕ) : Type 0 where
-  pub len : prefix_len test (joined true text) ≡ prefix_len test text
-  pub front : take (prefix_len test text) (joined true text) ≡ take (prefix_len test text) text
-  pub back : drop (prefix_len test text) (joined true text) ≡ joined true (drop (prefix_len test text) text)
+  pub len : prefix_len test (as_read true text) ≡ prefix_len test text
+  pub front : take (prefix_len test text) (as_read true text) ≡ take (prefix_len test text) text
+  pub back : drop (prefix_len test text) (as_read true text) ≡ as_read true (drop (prefix_len test text) text)
 
 pub same_run : (test : ℕ → Bool) → test 10 ≡ false → test 92 ≡ false → (text : List ℕ) → SameRun test text
 same_run test line back [] = record { len = ap (prefix_len test) joined_none; front = refl; back = refl }
@@ -157,19 +157,19 @@ same_run test line back (b ∷ bs) =
     elim (cases_Bool (test b)) [
       | inl e ↦
           let r : SameRun test bs = same_run test line back bs in
-          let at : joined true (b ∷ bs) ≡ b ∷ joined true bs = first_in test back b bs e in
+          let at : as_read true (b ∷ bs) ≡ b ∷ as_read true bs = first_in test back b bs e in
           let n : cond (test b) (1 + prefix_len test bs) 0 ≡ suc (prefix_len test bs) = ap (λ (t : Bool). cond t (1 + prefix_len test bs) 0) e ∙ one-add (prefix_len test bs) in
           record {
             len = ap (prefix_len test) at ∙ (ap (λ (k : ℕ). cond (test b) (1 + k) 0) r.len);
-            front = ap (λ (l : List ℕ). take (prefix_len test (b ∷ bs)) l) at ∙ (ap (λ (k : ℕ). take k (b ∷ joined true bs)) n ∙ (ap (λ (l : List ℕ). b ∷ l) r.front ∙ sym (ap (λ (k : ℕ). take k (b ∷ bs)) n)));
-            back = ap (λ (l : List ℕ). drop (prefix_len test (b ∷ bs)) l) at ∙ (ap (λ (k : ℕ). drop k (b ∷ joined true bs)) n ∙ (r.back ∙ sym (ap (λ (k : ℕ). joined true (drop k (b ∷ bs))) n)));
+            front = ap (λ (l : List ℕ). take (prefix_len test (b ∷ bs)) l) at ∙ (ap (λ (k : ℕ). take k (b ∷ as_read true bs)) n ∙ (ap (λ (l : List ℕ). b ∷ l) r.front ∙ sym (ap (λ (k : ℕ). take k (b ∷ bs)) n)));
+            back = ap (λ (l : List ℕ). drop (prefix_len test (b ∷ bs)) l) at ∙ (ap (λ (k : ℕ). drop k (b ∷ as_read true bs)) n ∙ (r.back ∙ sym (ap (λ (k : ℕ). as_read true (drop k (b ∷ bs))) n)));
           }
       | inr e ↦
           let n : prefix_len test (b ∷ bs) ≡ 0 = ap (λ (t : Bool). cond t (1 + prefix_len test bs) 0) e in
           record {
-            len = run_none test (joined true (b ∷ bs)) (first_out test line b bs e) ∙ sym n;
-            front = ap (λ (k : ℕ). take k (joined true (b ∷ bs))) n ∙ sym (ap (λ (k : ℕ). take k (b ∷ bs)) n);
-            back = ap (λ (k : ℕ). drop k (joined true (b ∷ bs))) n ∙ sym (ap (λ (k : ℕ). joined true (drop k (b ∷ bs))) n);
+            len = run_none test (as_read true (b ∷ bs)) (first_out test line b bs e) ∙ sym n;
+            front = ap (λ (k : ℕ). take k (as_read true (b ∷ bs))) n ∙ sym (ap (λ (k : ℕ). take k (b ∷ bs)) n);
+            back = ap (λ (k : ℕ). drop k (as_read true (b ∷ bs))) n ∙ sym (ap (λ (k : ℕ). as_read true (drop k (b ∷ bs))) n);
           }
     ]
 
@@ -529,12 +529,12 @@ kept_same LineComment xs ys f = refl
 kept_same k xs ys f = f refl
 
 alike_read : (mode : Mode) (raw : List ℕ) (t : Token) → Alike raw (without_continuations 0 raw) t (token_of mode (without_continuations 0 raw)) → IsRead true mode raw t
-unfolding joined
+unfolding as_read
 alike_read mode raw t a = grind (arith, kept_same, joins_is)
 
 -- the first token of a text, of a logical line or as it stands, is that of the text as it is read
 pub line_token_read : (is_logical : Bool) (mode : Mode) (text : List ℕ) → 0 < length text → IsRead is_logical mode text (line_token is_logical mode text)
-unfolding line_token joined
+unfolding line_token as_read
 line_token_read true mode text h = alike_read mode text (line_token true mode text) (line_alike mode text (without_continuations 0 text) (joins_text text) h)
 line_token_read false mode text h = record { kind = refl; next_mode = refl; bytes = refl; following = refl }
 

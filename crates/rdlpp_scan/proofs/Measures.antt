@@ -5,8 +5,8 @@ use Rattle.std.specs.Result.{result_unwrap_or}
 use Rattle.std.proofs.lemmas.Bool.{cond-false, false≢true, cond-true, and_from, and_left, and_parts, and_right, cond_both, not-true, or_parts, false_from_ne_true}
 use Rattle.memchr.specs.Find.{IsFirstByte, is_byte2}
 use Rattle.rdlpp_scan.specs.declared.token.LexFault.{LexFault}
-use Rattle.rdlpp_scan.specs.Texts.{onto_trimmed, without_end, trimmed_of, Cleared, Sound, Unsound, onto, begun, trimmed_left, trimmed_len, text_after, IsNext, len_from, ended_len, bytes_left, found_left, is_sound, told, stops_token, level_by, read_by, left_in, cleared, ends_default, trims}
-use Rattle.rdlpp_scan.specs.Continuations.{joined, without_continuations}
+use Rattle.rdlpp_scan.specs.KeptText.{onto_trimmed, without_end, trimmed_of, Cleared, Sound, Unsound, onto, begun, trimmed_left, trimmed_len, text_after, IsNext, len_from, ended_len, bytes_left, found_left, is_sound, told, stops_token, level_by, read_by, left_in, cleared, ends_default, trims}
+use Rattle.rdlpp_scan.specs.Continuations.{as_read, without_continuations}
 use Rattle.rdlpp_scan.specs.declared.token.Kind.{Kind}
 use Rattle.rdlpp_scan.specs.declared.token.Kind.TheVariants.{LineComment, Closer, Comma, Perl as PerlKind}
 use Rattle.rdlpp_scan.specs.declared.token.Mode.{Mode}
@@ -17,9 +17,9 @@ use Rattle.rdlpp_scan.specs.Tokens.{token_of, tokens_from, string_token, whole}
 use Rattle.rdlpp_scan.specs.LexFaults.{is_perl, open_fault, fault_of_tokens, lex_fault_from}
 use Rattle.rdlpp_scan.proofs.TokenLens.{token_of-part, tokens_from-step, fault-next, fault-perl}
 use Rattle.rdlpp_scan.specs.LineTokens.{kept_of, IsRead}
-use Rattle.rdlpp_scan.specs.declared.reading.KeptBytes.{KeptBytes}
+use Rattle.rdlpp_scan.specs.declared.kept_text.KeptBytes.{KeptBytes}
 use Rattle.rdlpp_scan.specs.declared.token.Mode.TheVariants.{Plain, InStr, InBlock}
-use Rattle.rdlpp_scan.specs.Reading.{left, left_after, IsAdvanced}
+use Rattle.rdlpp_scan.specs.KeptBytes.{left, left_after, IsAdvanced}
 use Rattle.rdlpp_scan.proofs.Joins.{reads_first, none_first, no_joint_at, joins_text, first_alike}
 use Rattle.rdlpp_scan.specs.Bytes.{begins_line_comment}
 use Rattle.rdlpp_scan.specs.Ordinary.{is_plain_kind}
@@ -265,8 +265,8 @@ pub after_fault : (c : Cleared) (fault : LexFault) → c ≡ Unsound fault → t
 unfolding text_after
 after_fault c fault e = ap text_after e
 
-pub same_joined : (l m : Bool) (x y : List ℕ) → l ≡ m → y ≡ x → joined l x ≡ joined m y
-same_joined l m x y e f = ap (λ (t : Bool). joined t x) e ∙ ap (joined m) (sym f)
+pub same_joined : (l m : Bool) (x y : List ℕ) → l ≡ m → y ≡ x → as_read l x ≡ as_read m y
+same_joined l m x y e f = ap (λ (t : Bool). as_read t x) e ∙ ap (as_read m) (sym f)
 
 -- A text is read token by token.
 
@@ -300,11 +300,11 @@ pub left_first : (l : Option ℕ) (mode : Mode) (text : List ℕ) → 0 < length
 unfolding left_in
 left_first l mode text h = ap (λ ts. read_by l mode ts text) (tokens_from-step mode text h (token_of-part mode text h).not_empty)
 
-joined_some : (is_logical : Bool) (raw : List ℕ) → 0 < length raw → 0 < length (joined is_logical raw)
+joined_some : (is_logical : Bool) (raw : List ℕ) → 0 < length raw → 0 < length (as_read is_logical raw)
 joined_some is_logical raw h = subst (λ x. 0 < length x) (sym (reads_first is_logical raw h).first) (omega arith)
 
-closer_alike : (is_logical : Bool) (raw : List ℕ) → eqb (get_or raw 0 0) 41 ≡ eqb (get_or (joined is_logical raw) 0 0) 41
-unfolding joined
+closer_alike : (is_logical : Bool) (raw : List ℕ) → eqb (get_or raw 0 0) 41 ≡ eqb (get_or (as_read is_logical raw) 0 0) 41
+unfolding as_read
 closer_alike true raw = first_alike (λ x. eqb x 41) refl raw (without_continuations 0 raw) (joins_text raw)
 closer_alike false raw = refl
 
@@ -318,7 +318,7 @@ stops_alike : (l : Option ℕ) (k : Kind) (x y : ℕ) → eqb x 41 ≡ eqb y 41 
 stops_alike None k x y e = refl
 stops_alike (Some n) k x y e = ap (λ q. eqb n 0 && q) (ends_alike k x y e)
 
-joined_kept : (is_logical : Bool) (k : Kind) (xs : List ℕ) → joined is_logical (kept_of k xs) ≡ kept_of k (joined is_logical xs)
+joined_kept : (is_logical : Bool) (k : Kind) (xs : List ℕ) → as_read is_logical (kept_of k xs) ≡ kept_of k (as_read is_logical xs)
 joined_kept is_logical LineComment xs = none_first is_logical [] refl
 joined_kept is_logical k xs = refl
 
@@ -327,13 +327,13 @@ pub record IsToken (is_logical : Bool) (mode : Mode) (raw : List ℕ) (t : Token
   pub some : 0 < length raw
   pub read : IsRead is_logical mode raw t
 
-pub left_perl : (is_logical : Bool) (l : Option ℕ) (mode : Mode) (raw : List ℕ) (t : Token) → IsToken is_logical mode raw t → is_perl t.kind ≡ true → left_in l mode (joined is_logical raw) ≡ Unsound Perl
-left_perl is_logical l mode raw t k p = left_first l mode (joined is_logical raw) (joined_some is_logical raw k.some) ∙ cond-true _ _ _ (ap is_perl (sym k.read.kind) ∙ p)
+pub left_perl : (is_logical : Bool) (l : Option ℕ) (mode : Mode) (raw : List ℕ) (t : Token) → IsToken is_logical mode raw t → is_perl t.kind ≡ true → left_in l mode (as_read is_logical raw) ≡ Unsound Perl
+left_perl is_logical l mode raw t k p = left_first l mode (as_read is_logical raw) (joined_some is_logical raw k.some) ∙ cond-true _ _ _ (ap is_perl (sym k.read.kind) ∙ p)
 
-pub left_stop : (is_logical : Bool) (l : Option ℕ) (mode : Mode) (raw : List ℕ) (t : Token) → IsToken is_logical mode raw t → is_perl t.kind ≡ false → stops_token l t.kind (get_or raw 0 0) ≡ true → left_in l mode (joined is_logical raw) ≡ Sound [] (joined is_logical raw)
+pub left_stop : (is_logical : Bool) (l : Option ℕ) (mode : Mode) (raw : List ℕ) (t : Token) → IsToken is_logical mode raw t → is_perl t.kind ≡ false → stops_token l t.kind (get_or raw 0 0) ≡ true → left_in l mode (as_read is_logical raw) ≡ Sound [] (as_read is_logical raw)
 left_stop is_logical l mode raw t k p s = grind (arith, left_first, joined_some, cond-false, cond-true, stops_alike, closer_alike)
 
-pub left_on : (is_logical : Bool) (l m : Option ℕ) (mode : Mode) (raw here token rest : List ℕ) (t : Token) → IsToken is_logical mode raw t → is_perl t.kind ≡ false → stops_token l t.kind (get_or raw 0 0) ≡ false → m ≡ level_by l t.kind → here ≡ take t.len raw → token ≡ kept_of t.kind here → rest ≡ drop t.len raw → onto (joined is_logical token) (left_in m t.next_mode (joined is_logical rest)) ≡ left_in l mode (joined is_logical raw)
+pub left_on : (is_logical : Bool) (l m : Option ℕ) (mode : Mode) (raw here token rest : List ℕ) (t : Token) → IsToken is_logical mode raw t → is_perl t.kind ≡ false → stops_token l t.kind (get_or raw 0 0) ≡ false → m ≡ level_by l t.kind → here ≡ take t.len raw → token ≡ kept_of t.kind here → rest ≡ drop t.len raw → onto (as_read is_logical token) (left_in m t.next_mode (as_read is_logical rest)) ≡ left_in l mode (as_read is_logical raw)
 left_on is_logical l m mode raw here token rest t k p s e f g h = grind (arith, joined_kept, left_first, joined_some, cond-false, stops_alike, closer_alike)
 
 -- a token but for a `//` comment is kept as it stands
@@ -351,9 +351,9 @@ pub stop_after : (new : Cleared) (text : List ℕ) → new ≡ Sound [] text →
 unfolding text_after
 stop_after new text e = ap text_after e
 
-pub left_new : (is_logical : Bool) (text : List ℕ) (l m : Option ℕ) → l ≡ m → onto (joined is_logical []) (left_in l Plain (joined is_logical text)) ≡ cleared m (joined is_logical text)
+pub left_new : (is_logical : Bool) (text : List ℕ) (l m : Option ℕ) → l ≡ m → onto (as_read is_logical []) (left_in l Plain (as_read is_logical text)) ≡ cleared m (as_read is_logical text)
 unfolding cleared
-left_new is_logical text l m e = kept_none (joined is_logical []) _ (none_first is_logical [] refl) ∙ ap (λ x. left_in x Plain (joined is_logical text)) e
+left_new is_logical text l m e = kept_none (as_read is_logical []) _ (none_first is_logical [] refl) ∙ ap (λ x. left_in x Plain (as_read is_logical text)) e
 
 pub some_from : (n : ℕ) → eqb n 0 ≡ false → 0 < n
 some_from zero e = absurd (false≢true (sym e))
@@ -378,7 +378,7 @@ more old new false a e = absurd (false≢true e)
 
 -- a reader at the end
 pub record IsLast (old new : KeptBytes) : Type 0 where
-  pub end : left_after old ≡ Sound [] (joined old.is_logical old.rest.now)
+  pub end : left_after old ≡ Sound [] (as_read old.is_logical old.rest.now)
   pub same : new ≡ old
 
 pub last : (old new : KeptBytes) (x : Bool) → IsAdvanced old (Ok x) new → x ≡ false → IsLast old new
@@ -386,19 +386,19 @@ unfolding IsAdvanced
 last old new true a e = absurd (false≢true (sym e))
 last old new false a e = record { end = a.0; same = a.1 }
 
-pub last_left : (old new : KeptBytes) → IsLast old new → joined old.is_logical old.token.now ≡ [] → left new ≡ Sound [] (joined old.is_logical old.rest.now)
-last_left old new a e = ap left a.same ∙ (kept_none (joined old.is_logical old.token.now) (left_after old) e ∙ a.end)
+pub last_left : (old new : KeptBytes) → IsLast old new → as_read old.is_logical old.token.now ≡ [] → left new ≡ Sound [] (as_read old.is_logical old.rest.now)
+last_left old new a e = ap left a.same ∙ (kept_none (as_read old.is_logical old.token.now) (left_after old) e ∙ a.end)
 
-pub last_after : (old new : KeptBytes) → IsLast old new → joined old.is_logical old.token.now ≡ [] → text_after (left new) ≡ joined new.is_logical new.rest.now
-last_after old new a e = stop_after (left new) (joined old.is_logical old.rest.now) (last_left old new a e) ∙ sym (ap (λ x. joined x.is_logical x.rest.now) a.same)
+pub last_after : (old new : KeptBytes) → IsLast old new → as_read old.is_logical old.token.now ≡ [] → text_after (left new) ≡ as_read new.is_logical new.rest.now
+last_after old new a e = stop_after (left new) (as_read old.is_logical old.rest.now) (last_left old new a e) ∙ sym (ap (λ x. as_read x.is_logical x.rest.now) a.same)
 
 pub passed_after : (old new : KeptBytes) → IsMore old new → text_after (left_after new) ≡ text_after (left_after old)
-passed_after old new a = sym (after_onto (left new) (left_after new) (joined new.is_logical new.token.now) refl) ∙ ap text_after a.same
+passed_after old new a = sym (after_onto (left new) (left_after new) (as_read new.is_logical new.token.now) refl) ∙ ap text_after a.same
 
 pub ended_after : (old new : KeptBytes) → IsLast old new → old.is_logical ≡ false → new.rest.now ≡ text_after (left_after old)
-unfolding text_after joined
+unfolding text_after as_read
 ended_after old new a e =
-    ap (λ (x : KeptBytes). x.rest.now) a.same ∙ sym (ap text_after a.end ∙ ap (λ l. joined l old.rest.now) e)
+    ap (λ (x : KeptBytes). x.rest.now) a.same ∙ sym (ap text_after a.end ∙ ap (λ l. as_read l old.rest.now) e)
 
 -- A text with neither a `\` nor a `/` is kept as it stands.
 
@@ -429,15 +429,15 @@ piece_after (suc n) (b ∷ bs) h = piece_after n bs (and_parts (is_piece_byte b)
 piece_after _ text h = h
 
 -- it has no continuation
-joined_piece : (text : List ℕ) → is_one_piece text ≡ true → joined true text ≡ text
-unfolding joined without_continuations
+joined_piece : (text : List ℕ) → is_one_piece text ≡ true → as_read true text ≡ text
+unfolding as_read without_continuations
 joined_piece [] h = refl
 joined_piece (b ∷ bs) h =
     let p = and_parts (is_piece_byte b) (is_one_piece bs) h in
     no_joint_at b bs (piece_byte b p.0).backslash ∙ ap (λ xs. b ∷ xs) (joined_piece bs p.1)
 
-pub piece_joined : (is_logical : Bool) (text : List ℕ) → is_one_piece text ≡ true → joined is_logical text ≡ text
-unfolding joined
+pub piece_joined : (is_logical : Bool) (text : List ℕ) → is_one_piece text ≡ true → as_read is_logical text ≡ text
+unfolding as_read
 piece_joined true text h = joined_piece text h
 piece_joined false text h = refl
 
@@ -500,31 +500,31 @@ unfolding cleared
 piece_cleared text h = piece_left (length text) Plain text (omega arith) h
 
 -- the same of the text of a logical line
-piece_told : (is_logical : Bool) (text : List ℕ) → is_one_piece text ≡ true → cleared None (joined is_logical text) ≡ told (lex_fault_from Plain text) text
+piece_told : (is_logical : Bool) (text : List ℕ) → is_one_piece text ≡ true → cleared None (as_read is_logical text) ≡ told (lex_fault_from Plain text) text
 piece_told is_logical text h = ap (cleared None) (piece_joined is_logical text h) ∙ piece_cleared text h
 
-pub piece_fault : (is_logical : Bool) (text : List ℕ) (fault : LexFault) → is_one_piece text ≡ true → lex_fault_from Plain text ≡ Some fault → trimmed_len (trims false) (cleared None (joined is_logical text)) ≡ Err fault
+pub piece_fault : (is_logical : Bool) (text : List ℕ) (fault : LexFault) → is_one_piece text ≡ true → lex_fault_from Plain text ≡ Some fault → trimmed_len (trims false) (cleared None (as_read is_logical text)) ≡ Err fault
 unfolding trimmed_len
 piece_fault is_logical text fault h e = ap (trimmed_len (trims false)) (piece_told is_logical text h ∙ ap (λ o. told o text) e)
 
-pub piece_sound : (is_logical : Bool) (text : List ℕ) → is_one_piece text ≡ true → lex_fault_from Plain text ≡ None → cleared None (joined is_logical text) ≡ Sound text []
+pub piece_sound : (is_logical : Bool) (text : List ℕ) → is_one_piece text ≡ true → lex_fault_from Plain text ≡ None → cleared None (as_read is_logical text) ≡ Sound text []
 piece_sound is_logical text h none = piece_told is_logical text h ∙ ap (λ o. told o text) none
 
 pub sound_measured : (c : Cleared) (text part : List ℕ) → c ≡ Sound text [] → part ≡ trimmed_of (trims false) text → trimmed_len (trims false) c ≡ Ok (length part)
 unfolding trimmed_len
 sound_measured c text part e p = ap (trimmed_len (trims false)) e ∙ ap (λ xs. ok_len (length xs)) (sym p)
 
-pub sound_nothing : (is_logical : Bool) (c : Cleared) (text : List ℕ) → c ≡ Sound text [] → text_after c ≡ joined is_logical []
+pub sound_nothing : (is_logical : Bool) (c : Cleared) (text : List ℕ) → c ≡ Sound text [] → text_after c ≡ as_read is_logical []
 unfolding text_after
 sound_nothing is_logical c text e = ap text_after e ∙ sym (none_first is_logical [] refl)
 
 -- what is left of a text that was measured is its part between the blanks at both ends
-pub measured_part : (is_logical : Bool) (text : List ℕ) (len : ℕ) → is_one_piece text ≡ true → trimmed_len (trims false) (cleared None (joined is_logical text)) ≡ Ok len
-    → trimmed_left (trims false) (cleared None (joined is_logical text)) ≡ trimmed_of (trims false) text
+pub measured_part : (is_logical : Bool) (text : List ℕ) (len : ℕ) → is_one_piece text ≡ true → trimmed_len (trims false) (cleared None (as_read is_logical text)) ≡ Ok len
+    → trimmed_left (trims false) (cleared None (as_read is_logical text)) ≡ trimmed_of (trims false) text
 unfolding trimmed_len trimmed_left
 measured_part is_logical text len h e = grind (arith, piece_told)
 
-pub part_len : (is_logical : Bool) (text part : List ℕ) (len : ℕ) → is_one_piece text ≡ true → trimmed_len (trims false) (cleared None (joined is_logical text)) ≡ Ok len → part ≡ trimmed_of (trims false) text → length part ≡ len
+pub part_len : (is_logical : Bool) (text part : List ℕ) (len : ℕ) → is_one_piece text ≡ true → trimmed_len (trims false) (cleared None (as_read is_logical text)) ≡ Ok len → part ≡ trimmed_of (trims false) text → length part ≡ len
 unfolding trimmed_len
 part_len is_logical text part len h e p = grind (arith, piece_told)
 

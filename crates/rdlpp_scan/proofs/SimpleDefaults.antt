@@ -12,7 +12,7 @@ use Rattle.rdlpp_scan.specs.Tokens.{plain_token, token_of, whole}
 use Rattle.rdlpp_scan.proofs.StopKinds.{both_first, digit_token, letter_token, blank_token, run_one}
 use Rattle.rdlpp_scan.proofs.TokenLens.{is_word-digit, is_word-letter}
 use Rattle.rdlpp_scan.specs.SimpleDefaults.{is_simple}
-use Rattle.rdlpp_scan.specs.Texts.{Cleared, cleared, ends_default, left_in, level_after, text_after}
+use Rattle.rdlpp_scan.specs.KeptText.{Cleared, cleared, ends_default, left_in, level_after, text_after}
 use Rattle.rdlpp_scan.proofs.Measures.{after_onto, by_first, left_first}
 
 -- what is left of a default text behind a first token that ends nothing and leaves the level

@@ -19,9 +19,9 @@ without_continuations zero (b ∷ bs) =
     else without_continuations (continuation_len (b ∷ bs) - 1) bs
 
 -- a text as it is read: of a logical line with LF in the place of each continuation, else as it is
-unfoldable pub joined : Bool → List ℕ → List ℕ
-joined true text = without_continuations 0 text
-joined false text = text
+unfoldable pub as_read : Bool → List ℕ → List ℕ
+as_read true text = without_continuations 0 text
+as_read false text = text
 
 -- how many bytes of a text are the first one that is read
 unfoldable pub first_len : Bool → List ℕ → ℕ

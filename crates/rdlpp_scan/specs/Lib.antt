@@ -17,7 +17,7 @@ pub mod CleanTexts
 pub mod PlainTexts
 pub mod Continuations
 pub mod LineTokens
-pub mod Texts
-pub mod Reading
+pub mod KeptText
+pub mod KeptBytes
 pub mod OnePiece
 pub mod SimpleDefaults

@@ -7,7 +7,7 @@ use Rattle.rdlpp_scan.specs.declared.token.Mode.{Mode}
 use Rattle.rdlpp_scan.specs.declared.token.Mode.TheVariants.{Plain, InStr, InBlock}
 use Rattle.rdlpp_scan.specs.declared.token.Token.{Token}
 use Rattle.rdlpp_scan.specs.Tokens.{whole, token_of}
-use Rattle.rdlpp_scan.specs.Continuations.{continuation_len, joined}
+use Rattle.rdlpp_scan.specs.Continuations.{continuation_len, as_read}
 
 -- the first token of a text of a logical line: in plain text a continuation is a line end (IEEE 1364-2001, `define`)
 unfoldable pub line_token : Bool → Mode → List ℕ → Token
@@ -23,7 +23,7 @@ kept_of k bytes = elim k [ LineComment ↦ [] | _ ↦ bytes ]
 -- a first token is that of the text as it is read: its kind, the mode behind it, its bytes but for those of a `//` comment, and
 -- what stands behind it
 pub record IsRead (is_logical : Bool) (mode : Mode) (text : List ℕ) (t : Token) : Type 0 where
-  pub kind : t.kind ≡ (token_of mode (joined is_logical text)).kind
-  pub next_mode : t.next_mode ≡ (token_of mode (joined is_logical text)).next_mode
-  pub bytes : kept_of t.kind (joined is_logical (take t.len text)) ≡ kept_of t.kind (take (token_of mode (joined is_logical text)).len (joined is_logical text))
-  pub following : joined is_logical (drop t.len text) ≡ drop (token_of mode (joined is_logical text)).len (joined is_logical text)
+  pub kind : t.kind ≡ (token_of mode (as_read is_logical text)).kind
+  pub next_mode : t.next_mode ≡ (token_of mode (as_read is_logical text)).next_mode
+  pub bytes : kept_of t.kind (as_read is_logical (take t.len text)) ≡ kept_of t.kind (take (token_of mode (as_read is_logical text)).len (as_read is_logical text))
+  pub following : as_read is_logical (drop t.len text) ≡ drop (token_of mode (as_read is_logical text)).len (as_read is_logical text)

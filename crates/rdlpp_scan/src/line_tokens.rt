@@ -3,7 +3,7 @@ ghost use Rattle.std.specs.Prelude.{◌≡◌, ◌≤◌, ◌<◌, length, true}
 ghost use Rattle.rdlpp_scan.specs.LineTokens.{line_token, IsRead};
 ghost use Rattle.rdlpp_scan.specs.declared.token.Mode.TheVariants.{Plain};
 
-use crate::first::continuation_len;
+use crate::continuations::continuation_len;
 use crate::{Kind, Mode, Token, first_token};
 
 /// The first token of a text, of a logical line or as it stands.

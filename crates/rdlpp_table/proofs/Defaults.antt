@@ -19,7 +19,7 @@ use Rattle.rdlpp_scan.proofs.CleanTexts.{IsCleanTo, blank-step, clean_tokens, li
 use Rattle.rdlpp_scan.proofs.RangeLaws.{clean_before_comma, tokens_from-first, tokens_from-front}
 use Rattle.rdlpp_scan.proofs.TokenLens.{token_of-part, tokens_from-step, tokens-some}
 use Rattle.rdlpp_scan.specs.LineTokens.{kept_of}
-use Rattle.rdlpp_scan.specs.Texts.{Sound, onto, cleared, ends_default, left_in, level_after, Cleared, Unsound, start_level, text_after, trimmed_left, trimmed_len, trims, told, read_by, kept_bytes}
+use Rattle.rdlpp_scan.specs.KeptText.{Sound, onto, cleared, ends_default, left_in, level_after, Cleared, Unsound, start_level, text_after, trimmed_left, trimmed_len, trims, told, read_by, kept_bytes}
 use Rattle.rdlpp_scan.proofs.Measures.{by_first, kept_own, left_first, left_len, ok_len}
 use Rattle.rdlpp_table.specs.Store.{fills, is_clean, is_default}
 use Rattle.rdlpp_scan.specs.TokenKinds.{opens_mode}

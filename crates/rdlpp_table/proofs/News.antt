@@ -19,8 +19,8 @@ use Rattle.rdlpp_scan.specs.Names.{is_name}
 use Rattle.rdlpp_table.specs.declared.fault.DefineKind.{DefineKind}
 use Rattle.rdlpp_table.specs.declared.fault.DefineFault.{DefineFault}
 use Rattle.rdlpp_table.specs.Table.{Formal, Macro, formal_bytes, macro_bytes, macro_size}
-use Rattle.rdlpp_scan.specs.Continuations.{joined}
-use Rattle.rdlpp_scan.specs.Texts.{Cleared, Sound, Unsound, onto, trimmed_left, trimmed_len, trims, cleared, told, read_by, left_in, kept_bytes, start_level}
+use Rattle.rdlpp_scan.specs.Continuations.{as_read}
+use Rattle.rdlpp_scan.specs.KeptText.{Cleared, Sound, Unsound, onto, trimmed_left, trimmed_len, trims, cleared, told, read_by, left_in, kept_bytes, start_level}
 use Rattle.rdlpp_table.specs.Define.{Draft, Drawn, DraftFault, lexical, observed, macro_set, name_fault, refused_word, set_of, stored, stored_draft, trimmed, with_body, without_list, text_without_line_comments, FormalFault, DefaultText, Good, Listed, FormalListFault, after_name, default_in, formal_fault, formal_in, formal_name, formals_in, formals_of_list, is_nothing, with_default}
 use Rattle.rdlpp_table.proofs.Taken.{between_parts}
 use Rattle.rdlpp_table.proofs.RoundTrip.{refused_is, read_list}
@@ -125,8 +125,8 @@ pub set_refuses : (a b : ℕ) (ms : List Macro) (name text : List ℕ) (fault : 
 unfolding set_of macro_set without_list stored_draft observed
 set_refuses a b ms name text fault e why word = grind (arith, cond-true)
 
-pub set_stores : (a b : ℕ) (ms : List Macro) (name text : List ℕ) → is_name name ≡ true → name_fault name ≡ None → stored_draft a b ms (with_body name None (joined false text)) ≡ set_of a b ms name text
-unfolding set_of macro_set without_list joined
+pub set_stores : (a b : ℕ) (ms : List Macro) (name text : List ℕ) → is_name name ≡ true → name_fault name ≡ None → stored_draft a b ms (with_body name None (as_read false text)) ≡ set_of a b ms name text
+unfolding set_of macro_set without_list as_read
 set_stores a b ms name text e ok = grind (arith, cond-true)
 
 -- The formals that a list gives are sound.
@@ -205,7 +205,7 @@ unfolding name_fault
 good_name name e = grind (arith, faultless, eqb-false, ltb-false)
 
 pub new_sound : (name : List ℕ) (arity : Option ℕ) (list : List ℕ) (is_logical : Bool) (text : List ℕ) (len : ℕ) → name_fault name ≡ None → AreSoundFormals (unwrap_or (list_formals arity list) [])
-    → Ok len ≡ trimmed_len (trims false) (cleared None (joined is_logical text)) → IsSoundMacro (new_macro name arity list is_logical text)
+    → Ok len ≡ trimmed_len (trims false) (cleared None (as_read is_logical text)) → IsSoundMacro (new_macro name arity list is_logical text)
 new_sound name arity list is_logical text len e s read =
     let g = good_name name e in
     record {
@@ -213,7 +213,7 @@ new_sound name arity list is_logical text len e s read =
       short = g.short;
       unreserved = g.unreserved;
       formals = s;
-      body = drawn_clean name (list_formals arity list) (joined is_logical text) (new_macro name arity list is_logical text) (body_drawn name (list_formals arity list) (joined is_logical text) len read);
+      body = drawn_clean name (list_formals arity list) (as_read is_logical text) (new_macro name arity list is_logical text) (body_drawn name (list_formals arity list) (as_read is_logical text) len read);
     }
 
 by_list : (text : List ℕ) (fs : List Formal) (after : List ℕ) → formals_of_list text ≡ Listed (Some fs) after → AreSoundFormals fs
@@ -229,12 +229,12 @@ listed_sound text (Some fs) after e = by_list text fs after e
 
 -- what is left of a body's text
 abbrev pub body_of_text : Bool → List ℕ → List ℕ
-body_of_text is_logical text = trimmed_left (trims false) (cleared None (joined is_logical text))
+body_of_text is_logical text = trimmed_left (trims false) (cleared None (as_read is_logical text))
 
 pub new_size : (name : List ℕ) (arity : Option ℕ) (list : List ℕ) (size : ℕ) (is_logical : Bool) (text : List ℕ) (len : ℕ) → IsNew name arity list size is_logical text len → macro_size (new_macro name arity list is_logical text) ≡ length name + (size + len)
 unfolding macro_size
 new_size name arity list size is_logical text len n =
-    omega (arith, n.listed.size_is, left_len (trims false) (cleared None (joined is_logical text)) len n.body_is)
+    omega (arith, n.listed.size_is, left_len (trims false) (cleared None (as_read is_logical text)) len n.body_is)
 
 pub new_bytes : (bytes named listed done name : List ℕ) (arity : Option ℕ) (list : List ℕ) (is_logical : Bool) (text : List ℕ) → named ≡ bytes ++ name → listed ≡ named ++ flat_map formal_bytes (unwrap_or (list_formals arity list) []) → done ≡ listed ++ body_of_text is_logical text → done ≡ bytes ++ macro_bytes (new_macro name arity list is_logical text)
 unfolding macro_bytes
@@ -312,8 +312,8 @@ no_formals arity list size items l e =
 
 -- a list that has formals
 pub record HasFormals (arity : Option ℕ) (list : List ℕ) : Type 0 where
-  pub is_read : is_some (listed (formals_in 255 [] (joined true list))) ≡ true
-  pub same : unwrap_or (list_formals arity list) [] ≡ unwrap_or (listed (formals_in 255 [] (joined true list))) []
+  pub is_read : is_some (listed (formals_in 255 [] (as_read true list))) ≡ true
+  pub same : unwrap_or (list_formals arity list) [] ≡ unwrap_or (listed (formals_in 255 [] (as_read true list))) []
 
 by_length : (o : Option (List Formal)) (n : ℕ) → option_map length o ≡ Some n → is_some o ≡ true
 by_length None n e = absurd (cc)
@@ -327,16 +327,16 @@ pub has_formals : (arity : Option ℕ) (list : List ℕ) (size : ℕ) → IsList
 unfolding list_formals
 has_formals None list size l h = absurd (omega arith)
 has_formals (Some n) list size l h =
-    let e : formals_of_list (joined true list) ≡ formals_in 255 [] (joined true list) = listed_count (joined true list) n l.arity_is h in
+    let e : formals_of_list (as_read true list) ≡ formals_in 255 [] (as_read true list) = listed_count (as_read true list) n l.arity_is h in
     grind (arith, by_length)
 
 -- what is appended of a body's text is what is left of it
-pub body_is : (is_logical : Bool) (text : List ℕ) → trimmed_left (trims false) (cleared (start_level false) (joined is_logical text)) ≡ body_of_text is_logical text
+pub body_is : (is_logical : Bool) (text : List ℕ) → trimmed_left (trims false) (cleared (start_level false) (as_read is_logical text)) ≡ body_of_text is_logical text
 unfolding start_level
 body_is is_logical text = refl
 
 -- a list that was read
-pub list_is : (list following : List ℕ) (count size : ℕ) → (formals : List Formal) × IsRead (formals_of_list (joined true list)) following count size formals → (IsList (Some count) list size) × (formals_of_list (joined true list) ≡ Listed (list_formals (Some count) list) following)
+pub list_is : (list following : List ℕ) (count size : ℕ) → (formals : List Formal) × IsRead (formals_of_list (as_read true list)) following count size formals → (IsList (Some count) list size) × (formals_of_list (as_read true list) ≡ Listed (list_formals (Some count) list) following)
 unfolding list_formals listed
 list_is list following count size r = grind arith
 

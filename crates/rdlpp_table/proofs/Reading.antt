@@ -13,7 +13,7 @@ use Rattle.rdlpp_table.specs.Store.{is_default, is_name_byte, is_plain_formal}
 use Rattle.rdlpp_table.specs.Formals.{IsDefault, IsPart, IsRead, default_left, fault_after, after_told, formal_told, is_told, listed}
 use Rattle.rdlpp_table.specs.declared.fault.DefineKind.{DefineKind}
 use Rattle.rdlpp_table.proofs.Sizes.{one_size, length_formal_bytes, length_list_bytes}
-use Rattle.rdlpp_scan.specs.Texts.{cleared, start_level, trimmed_left, trimmed_len, trims}
+use Rattle.rdlpp_scan.specs.KeptText.{cleared, start_level, trimmed_left, trimmed_len, trims}
 use Rattle.rdlpp_scan.proofs.Measures.{ok_len}
 use Rattle.rdlpp_table.specs.declared.fault.DefineKind.TheVariants as kind
 

@@ -10,8 +10,8 @@ use Rattle.std.proofs.lemmas.Slice.Eq.{bytes_eq-Decides}
 use Rattle.rdlpp_scan.specs.Bytes.{is_letter, is_word}
 use Rattle.rdlpp_scan.specs.Reserved.{is_reserved}
 use Rattle.rdlpp_scan.proofs.Seams.{word_ten}
-use Rattle.rdlpp_scan.specs.Continuations.{joined}
-use Rattle.rdlpp_scan.specs.Texts.{text_after}
+use Rattle.rdlpp_scan.specs.Continuations.{as_read}
+use Rattle.rdlpp_scan.specs.KeptText.{text_after}
 use Rattle.rdlpp_scan.proofs.Joins.{SameRun, first_in, first_out, joined_none, same_run, word_back}
 use Rattle.rdlpp_table.specs.Define.{Accepted, Draft, FormalList, Listed, DefinedFault, DraftFault, FormalListFault, after_space, define_of, formal_list, formals_of_list, is_space, leading_name, logical_text, macro_from, macro_of, name_fault, observed, refused_word, stored, stored_draft, unended, with_body, with_list}
 use Rattle.rdlpp_table.specs.Entries.{offsets_len}
@@ -344,7 +344,7 @@ pub none_space : (text : List ℕ) → text ≡ [] → after_space text ≡ text
 unfolding after_space
 none_space text t = ap (λ (l : List ℕ). drop (prefix_len is_space l) l) t ∙ sym t
 
-first_same : (test : ℕ → Bool) → test 10 ≡ false → test 92 ≡ false → (text : List ℕ) → test (get_or (joined true text) 0 0) ≡ test (get_or text 0 0)
+first_same : (test : ℕ → Bool) → test 10 ≡ false → test 92 ≡ false → (text : List ℕ) → test (get_or (as_read true text) 0 0) ≡ test (get_or text 0 0)
 first_same test line back [] = ap (λ (l : List ℕ). test (get_or l 0 0)) joined_none
 first_same test line back (b ∷ bs) =
     elim (cases_Bool (test b)) [
@@ -363,28 +363,28 @@ letter_back = refl
 same_word : (text : List ℕ) → SameRun is_word text
 same_word text = same_run is_word word_ten word_back text
 
--- the name of a text is the same where continuations are joined
-pub name_joined : (text : List ℕ) → leading_name (joined true text) ≡ leading_name text
+-- the name of a text is the same where continuations are read as their LF
+pub name_joined : (text : List ℕ) → leading_name (as_read true text) ≡ leading_name text
 unfolding leading_name
 name_joined text = grind (arith, first_same, letter_line, letter_back, same_word)
 
 -- what stands behind the name
-pub name_after : (text : List ℕ) → joined true (drop (length (leading_name text)) text) ≡ drop (length (leading_name text)) (joined true text)
+pub name_after : (text : List ℕ) → as_read true (drop (length (leading_name text)) text) ≡ drop (length (leading_name text)) (as_read true text)
 unfolding leading_name
 name_after text =
     elim (cases_Bool (is_letter (get_or text 0 0))) [
       | inl e ↦
           let n : length (cond (is_letter (get_or text 0 0)) (take (prefix_len is_word text) text) []) ≡ prefix_len is_word text =
           ap (λ (t : Bool). length (cond t (take (prefix_len is_word text) text) [])) e ∙ length-prefix_len is_word text in
-          ap (λ (k : ℕ). joined true (drop k text)) n ∙ (sym (same_word text).back ∙ sym (ap (λ (k : ℕ). drop k (joined true text)) n))
+          ap (λ (k : ℕ). as_read true (drop k text)) n ∙ (sym (same_word text).back ∙ sym (ap (λ (k : ℕ). drop k (as_read true text)) n))
       | inr e ↦
           let n : length (cond (is_letter (get_or text 0 0)) (take (prefix_len is_word text) text) []) ≡ 0 =
           ap (λ (t : Bool). length (cond t (take (prefix_len is_word text) text) [])) e in
-          ap (λ (k : ℕ). joined true (drop k text)) n ∙ sym (ap (λ (k : ℕ). drop k (joined true text)) n)
+          ap (λ (k : ℕ). as_read true (drop k text)) n ∙ sym (ap (λ (k : ℕ). drop k (as_read true text)) n)
     ]
 
 -- what was read of a part
-pub part_read : (text rest name tail following : List ℕ) → joined true rest ≡ after_space (joined true text) → name ≡ leading_name rest → tail ≡ take (length rest - length name) (drop (length name) rest) → joined true following ≡ after_space (joined true tail) → IsPart (joined true text) name (joined true following)
+pub part_read : (text rest name tail following : List ℕ) → as_read true rest ≡ after_space (as_read true text) → name ≡ leading_name rest → tail ≡ take (length rest - length name) (drop (length name) rest) → as_read true following ≡ after_space (as_read true tail) → IsPart (as_read true text) name (as_read true following)
 part_read text rest name tail following r n t b = grind (arith, name_joined, take_rest, name_after)
 
 -- whether a formal list follows
@@ -432,21 +432,21 @@ good_name name e is h = cond-false _ _ _ e ∙ (cond-false _ _ _ is ∙ cond-fal
 abbrev named_draft : List ℕ → List ℕ → Option DefineKind → Draft
 named_draft name after fault = elim fault [ Some k ↦ DraftFault k (refused_word k name) | None ↦ with_list name after ]
 
-macro_by_name : (rest line text name after : List ℕ) → line ≡ unended rest → joined true text ≡ after_space (joined true line) → name ≡ leading_name text → after ≡ drop (length name) text → macro_of rest ≡ named_draft name (joined true after) (name_fault name)
-unfolding macro_of logical_text macro_from joined
+macro_by_name : (rest line text name after : List ℕ) → line ≡ unended rest → as_read true text ≡ after_space (as_read true line) → name ≡ leading_name text → after ≡ drop (length name) text → macro_of rest ≡ named_draft name (as_read true after) (name_fault name)
+unfolding macro_of logical_text macro_from as_read
 macro_by_name rest line text name after e f g h = grind (arith, name_after, name_joined)
 
-pub define_stores : (a b : ℕ) (ms : List Macro) (rest line text name after : List ℕ) → line ≡ unended rest → joined true text ≡ after_space (joined true line) → name ≡ leading_name text → after ≡ drop (length name) text → name_fault name ≡ None → stored_draft a b ms (with_list name (joined true after)) ≡ define_of a b ms rest
+pub define_stores : (a b : ℕ) (ms : List Macro) (rest line text name after : List ℕ) → line ≡ unended rest → as_read true text ≡ after_space (as_read true line) → name ≡ leading_name text → after ≡ drop (length name) text → name_fault name ≡ None → stored_draft a b ms (with_list name (as_read true after)) ≡ define_of a b ms rest
 unfolding define_of
 define_stores a b ms rest line text name after e f g h ok =
-    sym (ap (stored_draft a b ms) (macro_by_name rest line text name after e f g h ∙ ap (named_draft name (joined true after)) ok))
+    sym (ap (stored_draft a b ms) (macro_by_name rest line text name after e f g h ∙ ap (named_draft name (as_read true after)) ok))
 
-pub define_refuses : (a b : ℕ) (ms : List Macro) (rest line text name : List ℕ) (fault : DefineFault) → line ≡ unended rest → joined true text ≡ after_space (joined true line) → name ≡ leading_name text → name_fault name ≡ Some fault.kind → fault.word.bytes ≡ refused_word fault.kind name → observed (Err fault) ms ≡ define_of a b ms rest
+pub define_refuses : (a b : ℕ) (ms : List Macro) (rest line text name : List ℕ) (fault : DefineFault) → line ≡ unended rest → as_read true text ≡ after_space (as_read true line) → name ≡ leading_name text → name_fault name ≡ Some fault.kind → fault.word.bytes ≡ refused_word fault.kind name → observed (Err fault) ms ≡ define_of a b ms rest
 unfolding define_of stored_draft observed
 define_refuses a b ms rest line text name fault e f g why word =
     let draft : macro_of rest ≡ DraftFault fault.kind fault.word.bytes =
     macro_by_name rest line text name (drop (length name) text) e f g refl
-    ∙ (ap (named_draft name (joined true (drop (length name) text))) why
+    ∙ (ap (named_draft name (as_read true (drop (length name) text))) why
     ∙ ap (DraftFault fault.kind) (sym word)) in
     grind (arith, macro_by_name)
 

@@ -15,7 +15,7 @@ use Rattle.rdlpp_scan.specs.SourceTokens.{logical_len}
 use Rattle.rdlpp_scan.specs.Names.{is_name}
 use Rattle.rdlpp_scan.specs.Reserved.{is_reserved}
 unfoldable pub use Rattle.rdlpp_scan.specs.Continuations.{continuation_len, without_continuations}
-unfoldable pub use Rattle.rdlpp_scan.specs.Texts.{is_space, onto_trimmed, without_end, trimmed_of, ends_default, level_after}
+unfoldable pub use Rattle.rdlpp_scan.specs.KeptText.{is_space, onto_trimmed, without_end, trimmed_of, ends_default, level_after}
 use Rattle.rdlpp_table.specs.Table.{Formal, Macro, macro_size, table_size, without}
 use Rattle.rdlpp_table.specs.declared.fault.DefineKind.{DefineKind}
 use Rattle.rdlpp_table.specs.declared.fault.DefineFault.{DefineFault}

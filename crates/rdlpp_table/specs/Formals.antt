@@ -7,7 +7,7 @@ use Rattle.rdlpp_scan.specs.declared.token.Mode.TheVariants.{Plain}
 use Rattle.rdlpp_scan.specs.Tokens.{tokens_from}
 use Rattle.rdlpp_table.specs.Table.{Formal, default_size, formal_size}
 use Rattle.rdlpp_table.specs.Define.{DefaultText, FormalList, Listed, FormalListFault, Good, FormalFault, after_space, default_of_tokens, formal_in, is_nothing, leading_name, trimmed_default}
-use Rattle.rdlpp_scan.specs.Texts.{cleared, start_level, trimmed_left, trimmed_len, trims}
+use Rattle.rdlpp_scan.specs.KeptText.{cleared, start_level, trimmed_left, trimmed_len, trims}
 use Rattle.rdlpp_table.specs.Store.{is_default, is_plain_formal}
 use Rattle.rdlpp_table.specs.declared.fault.DefineKind.{DefineKind}
 use Rattle.rdlpp_table.specs.declared.fault.DefineKind.TheVariants as kind

@@ -5,8 +5,8 @@ use Rattle.std.specs.List.{list_all}
 use Rattle.rdlpp_table.specs.Table.{Formal, Macro, formal_size}
 use Rattle.rdlpp_table.specs.Define.{formals_of_list}
 use Rattle.rdlpp_table.specs.Formals.{listed}
-use Rattle.rdlpp_scan.specs.Continuations.{joined}
-use Rattle.rdlpp_scan.specs.Texts.{cleared, trimmed_left, trimmed_len, trims}
+use Rattle.rdlpp_scan.specs.Continuations.{as_read}
+use Rattle.rdlpp_scan.specs.KeptText.{cleared, trimmed_left, trimmed_len, trims}
 use Rattle.rdlpp_table.specs.declared.point_cache.PointCache.{PointCache}
 use Rattle.rdlpp_table.specs.PointCache.{cached_points}
 use Rattle.rdlpp_table.specs.Store.{formals_read, is_plain_formal}
@@ -14,12 +14,12 @@ use Rattle.rdlpp_table.specs.Store.{formals_read, is_plain_formal}
 -- the formals of a list's text, where there is a list
 unfoldable pub list_formals : Option ℕ → List ℕ → Option (List Formal)
 list_formals None list = None
-list_formals (Some n) list = listed (formals_of_list (joined true list))
+list_formals (Some n) list = listed (formals_of_list (as_read true list))
 
 -- the macro
 abbrev pub new_macro : List ℕ → Option ℕ → List ℕ → Bool → List ℕ → Macro
 new_macro name arity list is_logical text =
-    record { name = name; formals = list_formals arity list; body = trimmed_left (trims false) (cleared None (joined is_logical text)) }
+    record { name = name; formals = list_formals arity list; body = trimmed_left (trims false) (cleared None (as_read is_logical text)) }
 
 -- so many formals with so many bytes are those of a list's text
 pub record IsList (arity : Option ℕ) (list : List ℕ) (size : ℕ) : Type 0 where
@@ -30,7 +30,7 @@ pub record IsList (arity : Option ℕ) (list : List ℕ) (size : ℕ) : Type 0 w
 -- the size and the arity are those of its formals, and its body has so many bytes
 pub record IsNew (name : List ℕ) (arity : Option ℕ) (list : List ℕ) (size : ℕ) (is_logical : Bool) (text : List ℕ) (len : ℕ) : Type 0 where
   pub listed : IsList arity list size
-  pub body_is : trimmed_len (trims false) (cleared None (joined is_logical text)) ≡ Ok len
+  pub body_is : trimmed_len (trims false) (cleared None (as_read is_logical text)) ≡ Ok len
 
 -- the first expansion points of the body behind a place of a table's bytes, by so many formals between two places
 abbrev pub points_told : List ℕ → ℕ → ℕ → ℕ → PointCache

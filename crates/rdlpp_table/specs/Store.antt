@@ -7,7 +7,7 @@ use Rattle.rdlpp_scan.specs.declared.token.Token.{Token}
 use Rattle.rdlpp_scan.specs.Comments.{is_line_comment}
 use Rattle.rdlpp_scan.specs.LexFaults.{lex_fault_from}
 use Rattle.rdlpp_scan.specs.Tokens.{tokens_from}
-use Rattle.rdlpp_scan.specs.Texts.{cleared, ends_default, level_after, text_after}
+use Rattle.rdlpp_scan.specs.KeptText.{cleared, ends_default, level_after, text_after}
 use Rattle.rdlpp_table.specs.Table.{Formal, Macro, macro_size, table_bytes, formal_bytes, formal_size}
 use Rattle.rdlpp_table.specs.FormalOffsets.{macro_offsets, offsets_of}
 use Rattle.rdlpp_table.specs.View.{formals_of}

@@ -24,7 +24,7 @@ ghost use Rattle.std.specs.Prelude.{
   ◌∷◌,
 };
 ghost use Rattle.std.specs.List.{flat_map};
-ghost use Rattle.rdlpp_scan.specs.Continuations.{joined};
+ghost use Rattle.rdlpp_scan.specs.Continuations.{as_read};
 ghost use Rattle.rdlpp_table.specs.Define.{default_in, formals_in, formals_of_list, FormalListFault};
 ghost use Rattle.rdlpp_table.specs.Formals.{after_told, default_after, fault_after, formal_told, is_told, listed, IsDefault, IsPart, IsRead};
 ghost use Rattle.rdlpp_table.specs.Table.{formal_bytes, formal_size, Formal};
@@ -66,7 +66,7 @@ struct Part<'a> {
 
 // The formal with which the text of a list begins.
 fn first_part(text: &[u8]) -> Part<'_>
-    ensures part { IsPart (joined true text.now) result.name.now (joined true result.following.now) }
+    ensures part { IsPart (as_read true text.now) result.name.now (as_read true result.following.now) }
     ensures inside { length result.name.now + length result.following.now ≤ length text.now }
 {
     let rest = after_space(text);
@@ -88,7 +88,7 @@ struct DefaultText<'a> {
 // The default text behind the `=` of a formal; `None` where it has a fault or no end.
 fn read_default(from: &[u8]) -> Option<DefaultText<'_>>
     requires { length from.now < 18446744073709551615 }
-    ensures is { MatchOption result (default_after (joined true from.now) ≡ None) (λ d. IsDefault (default_after (joined true from.now)) (joined true d.from.now) (joined true d.following.now) d.size) }
+    ensures is { MatchOption result (default_after (as_read true from.now) ≡ None) (λ d. IsDefault (default_after (as_read true from.now)) (as_read true d.from.now) (as_read true d.following.now) d.size) }
     ensures inside { IfSome result (λ d. d.size + length d.following.now ≤ length from.now + 1) }
 {
     let Ok(measured) = trimmed_len(from, true, true) else {
@@ -111,7 +111,7 @@ fn read_default(from: &[u8]) -> Option<DefaultText<'_>>
 
 // The default text of a formal, by what stands behind its name; `None` where it has a fault or no end.
 fn default_in(text: &[u8]) -> Option<DefaultText<'_>>
-    ensures is { MatchOption result (default_in (joined true text.now) ≡ None) (λ d. IsDefault (default_in (joined true text.now)) (joined true d.from.now) (joined true d.following.now) d.size) }
+    ensures is { MatchOption result (default_in (as_read true text.now) ≡ None) (λ d. IsDefault (default_in (as_read true text.now)) (as_read true d.from.now) (as_read true d.following.now) d.size) }
     ensures inside { IfSome result (λ d. d.size + length d.following.now ≤ length text.now) }
 {
     if let Some((b, from)) = split_first(text, true) {
@@ -136,7 +136,7 @@ pub(crate) struct ReadList<'a> {
 
 // Reads the formals of a list that has some.
 fn read_some(text: &[u8]) -> Result<ReadList<'_>, DefineKind>
-    ensures read { MatchResult result (λ read. (formals : List Formal) × IsRead (formals_in 255 [] (joined true text.now)) (joined true read.following.now) read.count read.size formals) (λ kind. formals_in 255 [] (joined true text.now) ≡ FormalListFault kind) }
+    ensures read { MatchResult result (λ read. (formals : List Formal) × IsRead (formals_in 255 [] (as_read true text.now)) (as_read true read.following.now) read.count read.size formals) (λ kind. formals_in 255 [] (as_read true text.now) ≡ FormalListFault kind) }
 {
     let mut names: ArrayVec<&[u8], MOST_FORMALS> = ArrayVec::new();
     let mut rest = text;
@@ -170,7 +170,7 @@ fn read_some(text: &[u8]) -> Result<ReadList<'_>, DefineKind>
 
 // Reads a formal list, behind its `(`.
 pub(crate) fn read_list(text: &[u8]) -> Result<ReadList<'_>, DefineKind>
-    ensures read { MatchResult result (λ read. (formals : List Formal) × IsRead (formals_of_list (joined true text.now)) (joined true read.following.now) read.count read.size formals) (λ kind. formals_of_list (joined true text.now) ≡ FormalListFault kind) }
+    ensures read { MatchResult result (λ read. (formals : List Formal) × IsRead (formals_of_list (as_read true text.now)) (as_read true read.following.now) read.count read.size formals) (λ kind. formals_of_list (as_read true text.now) ≡ FormalListFault kind) }
 {
     if let Some((b, following)) = split_first(after_space(text), true) {
         if b == b')' {
@@ -186,11 +186,11 @@ pub(crate) fn read_list(text: &[u8]) -> Result<ReadList<'_>, DefineKind>
 
 // Appends the formal with which a list's text begins, and answers the text behind the `,` after it, where there is one.
 fn append_formal<'a>(to: &mut Vec<u8>, text: &'a [u8]) -> Option<&'a [u8]>
-    requires good { is_told (joined true text.now) ≡ true }
-    requires room { vec_len to.old + formal_size (formal_told (joined true text.now)) ≤ vec_capacity to.old }
-    ensures items { to.new.items ≡ to.old.items ++ formal_bytes (formal_told (joined true text.now)) }
+    requires good { is_told (as_read true text.now) ≡ true }
+    requires room { vec_len to.old + formal_size (formal_told (as_read true text.now)) ≤ vec_capacity to.old }
+    ensures items { to.new.items ≡ to.old.items ++ formal_bytes (formal_told (as_read true text.now)) }
     ensures capacity { vec_capacity to.new ≡ vec_capacity to.old }
-    ensures following { MatchOption result (slice_index (after_told (joined true text.now)) 0 ≢ 44) (λ following. after_told (joined true text.now) ≡ 44 ∷ joined true following.now) }
+    ensures following { MatchOption result (slice_index (after_told (as_read true text.now)) 0 ≢ 44) (λ following. after_told (as_read true text.now) ≡ 44 ∷ as_read true following.now) }
     ensures less { IfSome result (λ following. length following.now < length text.now) }
 {
     let part = first_part(text);
@@ -211,9 +211,9 @@ fn append_formal<'a>(to: &mut Vec<u8>, text: &'a [u8]) -> Option<&'a [u8]>
 
 // Appends the formals of a list that was read.
 pub(crate) fn append_list(to: &mut Vec<u8>, text: &[u8])
-    requires listed { is_some (listed (formals_in 255 [] (joined true text.now))) ≡ true }
-    requires room { vec_len to.old + sum_by formal_size (unwrap_or (listed (formals_in 255 [] (joined true text.now))) []) ≤ vec_capacity to.old }
-    ensures items { to.new.items ≡ to.old.items ++ flat_map formal_bytes (unwrap_or (listed (formals_in 255 [] (joined true text.now))) []) }
+    requires listed { is_some (listed (formals_in 255 [] (as_read true text.now))) ≡ true }
+    requires room { vec_len to.old + sum_by formal_size (unwrap_or (listed (formals_in 255 [] (as_read true text.now))) []) ≤ vec_capacity to.old }
+    ensures items { to.new.items ≡ to.old.items ++ flat_map formal_bytes (unwrap_or (listed (formals_in 255 [] (as_read true text.now))) []) }
     ensures capacity { vec_capacity to.new ≡ vec_capacity to.old }
 {
     let mut rest = text;

@@ -1,7 +1,7 @@
 // The header of a definition: white space, a name, and whether a formal list follows.
 ghost use Rattle.std.specs.Prelude.{length, true, IfSome, MatchOption, None, ◌≡◌, ◌≤◌};
 ghost use Rattle.rdlpp_scan.specs.SourceTokens.{logical_len};
-ghost use Rattle.rdlpp_scan.specs.Continuations.{joined};
+ghost use Rattle.rdlpp_scan.specs.Continuations.{as_read};
 ghost use Rattle.rdlpp_table.specs.Define.{after_space, formal_list, formals_of_list, leading_name, unended, Listed};
 
 use rdlpp_scan::{is_letter, is_space, logical_line, split_first, word_bytes};
@@ -20,7 +20,7 @@ pub(crate) fn unended(rest: &[u8]) -> &[u8]
 
 // A text of a logical line without the white space with which it begins.
 pub(crate) fn after_space(text: &[u8]) -> &[u8]
-    ensures value { joined true result.now ≡ after_space (joined true text.now) }
+    ensures value { as_read true result.now ≡ after_space (as_read true text.now) }
     ensures inside { length result.now ≤ length text.now }
 {
     let mut rest = text;
@@ -48,7 +48,7 @@ pub(crate) fn leading_name(bytes: &[u8]) -> &[u8]
 
 // The text of a formal list, behind its `(`, where one follows the name at once.
 pub(crate) fn list_after(after: &[u8]) -> Option<&[u8]>
-    ensures { MatchOption result (formal_list (joined true after.now) ≡ Listed None (joined true after.now)) (λ list. formal_list (joined true after.now) ≡ formals_of_list (joined true list.now)) }
+    ensures { MatchOption result (formal_list (as_read true after.now) ≡ Listed None (as_read true after.now)) (λ list. formal_list (as_read true after.now) ≡ formals_of_list (as_read true list.now)) }
 {
     match split_first(after, true) {
         Some((b, list)) => { if b == b'(' { Some(list) } else { None } }

@@ -1,7 +1,7 @@
 // The table of macros: a list of bytes, one of entries and an index by name, all reserved when the table is made.
 ghost use Rattle.std.specs.Prelude.{◌≡◌, ◌≢◌, ◌<◌, ◌≤◌, ◌==◌, [], length, IfOk, IfSome, IfNone, Some, None, is_some, option_map, OnErr, true, unwrap_or, ◌+◌};
 ghost use Rattle.rdlpp_table.specs.NewMacro.{list_formals, new_macro, IsList, IsNew};
-ghost use Rattle.rdlpp_scan.specs.Continuations.{joined};
+ghost use Rattle.rdlpp_scan.specs.Continuations.{as_read};
 ghost use Rattle.rdlpp_table.specs.Index.{IsCounted};
 ghost use Rattle.rdlpp_table.specs.Limits.{AreInRange};
 ghost use Rattle.rdlpp_table.specs.ExpansionPoints.{point_in};
@@ -402,7 +402,7 @@ impl Table {
     fn store_named(&mut self, name: &[u8], after: &[u8]) -> Result<(), DefineFault>
         requires short { length name.now ≤ 128 }
         requires named { name_fault name.now ≡ None }
-        ensures outcome { observed result self.new.macros ≡ stored_draft self.old.most_bytes self.old.most_macros self.old.macros (with_list name.now (joined true after.now)) }
+        ensures outcome { observed result self.new.macros ≡ stored_draft self.old.most_bytes self.old.most_macros self.old.macros (with_list name.now (as_read true after.now)) }
         ensures refused { OnErr result (self.new ≡ self.old) }
         ensures limits { (self.new.most_bytes ≡ self.old.most_bytes) × (self.new.most_macros ≡ self.old.most_macros) }
     {
@@ -435,7 +435,7 @@ impl Table {
         requires named { name_fault name.now ≡ None }
         requires sound { AreSoundFormals (unwrap_or (list_formals arity list.now) []) }
         requires listed { IsList arity list.now list_len }
-        ensures outcome { observed result self.new.macros ≡ stored_draft self.old.most_bytes self.old.most_macros self.old.macros (with_body name.now (list_formals arity list.now) (joined is_logical text.now)) }
+        ensures outcome { observed result self.new.macros ≡ stored_draft self.old.most_bytes self.old.most_macros self.old.macros (with_body name.now (list_formals arity list.now) (as_read is_logical text.now)) }
         ensures refused { OnErr result (self.new ≡ self.old) }
         ensures limits { (self.new.most_bytes ≡ self.old.most_bytes) × (self.new.most_macros ≡ self.old.most_macros) }
     {

@@ -1,11 +1,11 @@
 use Rattle.std.proofs.Common.{◌≤◌, ◌+◌, true, length, map}
-use Rattle.rdlpp_scan.specs.Continuations.{joined}
+use Rattle.rdlpp_scan.specs.Continuations.{as_read}
 use Rattle.rdlpp_table.proofs.Reading.{IsReading}
 use Rattle.rdlpp_table.proofs.formals.read_some.Given as goal
 
 abbrev pub invariant-loop-kind : goal.invariant-loop-kind
 invariant-loop-kind l = record {
-  reading : IsReading (joined true l.fn.text) (joined true l.rest) (map (λ n. n.now) l.names.items) l.size;
+  reading : IsReading (as_read true l.fn.text) (as_read true l.rest) (map (λ n. n.now) l.names.items) l.size;
   shorter : l.size + length l.rest ≤ length l.fn.text;
 }
 

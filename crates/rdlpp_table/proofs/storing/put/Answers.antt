@@ -1,5 +1,5 @@
 use Rattle.std.proofs.Common.{Option, ◌+◌, ◌∙◌, ◌++◌, drop, ◌∷◌, [], ap, arith, length, slice_range, length-append, unwrap_or, List, ℕ, flat_map}
-use Rattle.rdlpp_scan.specs.Texts.{start_level}
+use Rattle.rdlpp_scan.specs.KeptText.{start_level}
 use Rattle.rdlpp_table.specs.Table.{Formal, formal_bytes}
 use Rattle.rdlpp_table.proofs.Sizes.{count_items, few_offsets, length_list_bytes}
 use Rattle.rdlpp_table.specs.declared.entry.Entry.{Entry}

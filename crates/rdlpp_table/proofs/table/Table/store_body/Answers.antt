@@ -1,5 +1,5 @@
 use Rattle.std.proofs.Common.{◌∙◌, sym}
-use Rattle.rdlpp_scan.specs.Texts.{start_level}
+use Rattle.rdlpp_scan.specs.KeptText.{start_level}
 use Rattle.rdlpp_table.proofs.News.{body_stores, body_refuses, new_sound}
 use Rattle.rdlpp_table.proofs.table.Table.store_body.Goals as goal
 
