@@ -23,7 +23,7 @@ ghost use Rattle.rdlpp_state.specs.Held.{HoldsDefinitions, IsBounded, bound_of, 
 ghost use Rattle.rdlpp_state.specs.Moves.{Ends, IsReady, IsDrained, LooksAtName, ReadsDefine};
 ghost use Rattle.rdlpp_state.specs.OpenConditionals.{inner_below};
 ghost use Rattle.rdlpp_state.specs.Pending.{nothing_pending};
-ghost use Rattle.rdlpp_state.specs.Pieces.{IsPlaced, Lends, answer_of, held_texts, lent_answer, step_answer};
+ghost use Rattle.rdlpp_state.specs.Pieces.{IsPlaced, Lends, answer_of, held_texts, lent_answer, silent_answer, step_answer};
 ghost use Rattle.rdlpp_state.specs.Stored.{LetsGo};
 ghost use Rattle.rdlpp_state.specs.Remaining.{output_fault, state_of};
 ghost use Rattle.rdlpp_expand.specs.Run.{write_fault};
@@ -47,6 +47,7 @@ mod texts;
 mod usage;
 
 use arrayvec::ArrayString;
+use fronts::location_of;
 pub use looking::OpenSource;
 use rdlpp_front::{Argument, SourceItem, next_item};
 use rdlpp_meaning::{Fault, FaultKind};
@@ -54,7 +55,7 @@ use rdlpp_read::{Conditions, Files, Fill, LogicalLine};
 use rdlpp_scan::{Directive, Mode, line_ends_in, reserved};
 use rdlpp_source::Sources;
 use rdlpp_state::{
-    Held, Marks, Pending, PendingPart, PendingPiece, Phase, Piece, PieceLocation, copied,
+    Halt, Held, Marks, Pending, PendingPart, PendingPiece, Phase, Piece, PieceLocation, copied,
     copied_fault, fault_kind,
 };
 use rdlpp_table::{Limits, Table, word_of};
@@ -293,7 +294,10 @@ impl<S: Sources> Engine<S> {
         }
         match self.phase {
             Phase::Open => {}
-            Phase::OverLimit => return Some(self.record_output_fault()),
+            Phase::OverLimit => {
+                self.record_output_fault();
+                return Some(PieceLocation::Fault);
+            }
             _ => return Some(PieceLocation::End),
         }
         if let Some(piece) = self.take_pending() {
@@ -323,21 +327,20 @@ impl<S: Sources> Engine<S> {
                 self.facts();
                 self.take_held()
             }
-            Fill::End => self.end(),
-            Fill::SourceLong => Some(self.record_fault(FaultKind::SourceTooLong)),
-            Fill::LineLong => Some(self.record_fault(FaultKind::LineTooLong)),
-            Fill::Failed => Some(self.record_read_fault()),
+            Fill::End => location_of(self.end()),
+            Fill::SourceLong => location_of(Some(self.record_fault(FaultKind::SourceTooLong))),
+            Fill::LineLong => location_of(Some(self.record_fault(FaultKind::LineTooLong))),
+            Fill::Failed => location_of(Some(self.record_read_fault())),
         }
     }
 
     // Takes what the held bytes begin with, which is no text that is copied.
-    fn take_front(&mut self) -> Option<PieceLocation>
+    fn take_front(&mut self) -> Option<Halt>
         requires ready { IsReady self.old }
         requires live { self.old.conditions.skipped ≡ None }
         requires some { 0 < length (held_of (inner_buffer self.old.files.include_stack)) }
         requires none { (len : ℕ) → (next : Mode) → IsText (inner_buffer self.old.files.include_stack).mode (held_of (inner_buffer self.old.files.include_stack)) len next → ⊥ }
-        ensures place { IfSome result (IsPlaced self.new) }
-        ensures uncut_step { IsBounded self.new → UncutStep S.Sources self.old self.new (step_answer self.new result) }
+        ensures { IsBounded self.new → UncutStep S.Sources self.old self.new (silent_answer self.new result) }
     {
         let buffer = &self.files.file().buffer;
         match next_item(buffer.mode(), buffer.held()) {
@@ -358,14 +361,13 @@ impl<S: Sources> Engine<S> {
 
     // Takes in the logical line of the `define` with which the held bytes begin, and reads it.
     #[inline(never)]
-    fn define_line(&mut self) -> Option<PieceLocation>
+    fn define_line(&mut self) -> Option<Halt>
         requires ready { IsReady self.old }
         requires live { self.old.conditions.skipped ≡ None }
         requires some { 0 < length (held_of (inner_buffer self.old.files.include_stack)) }
         requires mode { (inner_buffer self.old.files.include_stack).mode ≡ Mode.Plain }
         requires define { IsDirective Define (held_of (inner_buffer self.old.files.include_stack)) }
-        ensures place { IfSome result (IsPlaced self.new) }
-        ensures uncut_step { IsBounded self.new → UncutStep S.Sources self.old self.new (step_answer self.new result) }
+        ensures { IsBounded self.new → UncutStep S.Sources self.old self.new (silent_answer self.new result) }
     {
         match self.hold_line() {
             LogicalLine::Whole(len) => {
@@ -379,15 +381,14 @@ impl<S: Sources> Engine<S> {
     }
 
     // Reads the `define` whose logical line has `len` bytes, and owes the LF bytes of that line.
-    fn read_define(&mut self, len: usize) -> Option<PieceLocation>
+    fn read_define(&mut self, len: usize) -> Option<Halt>
         requires include_stack { 0 < length self.old.files.include_stack }
         requires inside { len ≤ length (held_of (inner_buffer self.old.files.include_stack)) }
         requires line { IfSome (logical_len 0 0 (drop 7 (take len (held_of (inner_buffer self.old.files.include_stack))))) (λ n. n ≡ length (drop 7 (take len (held_of (inner_buffer self.old.files.include_stack))))) }
         requires nothing { self.old.pending ≡ nothing_pending }
         requires idle { self.old.expansion.opens ≡ [] }
         requires files { AreOpen self.old.files }
-        ensures place { IfSome result (IsPlaced self.new) }
-        ensures reads { ReadsDefine len self.old self.new result }
+        ensures { ReadsDefine len self.old self.new result }
     {
         let file = self.files.file();
         let at = file.buffer.line();
@@ -411,17 +412,16 @@ impl<S: Sources> Engine<S> {
 
     // Takes out the macro of an `undef`, which is given a name or none, and lends nothing.
     #[inline(never)]
-    fn undefine(&mut self, argument: Option<Argument>) -> Option<PieceLocation>
+    fn undefine(&mut self, argument: Option<Argument>) -> Option<Halt>
         requires ready { IsReady self.old }
         requires live { self.old.conditions.skipped ≡ None }
         requires some { 0 < length (held_of (inner_buffer self.old.files.include_stack)) }
         requires mode { (inner_buffer self.old.files.include_stack).mode ≡ Mode.Plain }
         requires undef { IsNamed Undef (held_of (inner_buffer self.old.files.include_stack)) argument }
-        ensures place { IfSome result (IsPlaced self.new) }
-        ensures uncut_step { IsBounded self.new → UncutStep S.Sources self.old self.new (step_answer self.new result) }
+        ensures { IsBounded self.new → UncutStep S.Sources self.old self.new (silent_answer self.new result) }
     {
         match self.named(argument) {
-            Err(place) => Some(place),
+            Err(halt) => Some(halt),
             Ok(given) => {
                 let name = &self.files.file().buffer.held()[given.start..given.stop];
                 let _found = self.table.remove(name);
@@ -432,9 +432,8 @@ impl<S: Sources> Engine<S> {
         }
     }
 
-    // The name that a directive is given; or the place of its fault, which is kept: none stands there, or it is
-    // reserved.
-    fn named(&mut self, argument: Option<Argument>) -> Result<Argument, PieceLocation>
+    // The name that a directive is given; or that its fault is kept: none stands there, or it is reserved.
+    fn named(&mut self, argument: Option<Argument>) -> Result<Argument, Halt>
         requires include_stack { 0 < length self.old.files.include_stack }
         requires given { (word : Directive) × IsNamed word (held_of (inner_buffer self.old.files.include_stack)) argument }
         ensures { LooksAtName argument self.old self.new result }
@@ -454,7 +453,7 @@ impl<S: Sources> Engine<S> {
 
     // Ends the innermost source, which has no more bytes; a string, a comment or a conditional that is open
     // is a fault.
-    fn end(&mut self) -> Option<PieceLocation>
+    fn end(&mut self) -> Option<Halt>
         requires open { self.old.phase ≡ Phase.Open }
         requires some { 0 < length self.old.files.include_stack }
         requires nothing { self.old.pending ≡ nothing_pending }
@@ -481,7 +480,7 @@ impl<S: Sources> Engine<S> {
 
     // Ends the innermost source, in which no string and no comment is open; a conditional that is open is a
     // fault.
-    fn end_plain(&mut self) -> Option<PieceLocation>
+    fn end_plain(&mut self) -> Option<Halt>
         requires open { self.old.phase ≡ Phase.Open }
         requires some { 0 < length self.old.files.include_stack }
         requires nothing { self.old.pending ≡ nothing_pending }
@@ -497,7 +496,7 @@ impl<S: Sources> Engine<S> {
     }
 
     // Ends the innermost source, in which nothing is open: closes the main text, or leaves an included source.
-    fn end_whole(&mut self) -> Option<PieceLocation>
+    fn end_whole(&mut self) -> Option<Halt>
         requires open { self.old.phase ≡ Phase.Open }
         requires some { 0 < length self.old.files.include_stack }
         requires nothing { self.old.pending ≡ nothing_pending }
@@ -511,7 +510,7 @@ impl<S: Sources> Engine<S> {
             return None;
         }
         self.close();
-        Some(PieceLocation::End)
+        Some(Halt::End)
     }
 
     // Closes the main text, which has ended.
@@ -560,18 +559,18 @@ impl<S: Sources> Engine<S> {
     // that seldom comes.
     #[cold]
     #[inline(never)]
-    fn record_fault(&mut self, kind: FaultKind) -> PieceLocation
+    fn record_fault(&mut self, kind: FaultKind) -> Halt
         requires { 0 < length self.old.files.include_stack }
-        ensures place { result ≡ PieceLocation.Fault }
+        ensures place { result ≡ Halt.Fault }
         ensures kept { self.new ≡ record self.old { kept = Some (fault_at kind (inner_buffer self.old.files.include_stack).line [] (state_of self.old)) } }
     {
         self.record_word_fault(kind, ArrayString::new())
     }
 
     // Keeps a fault with its word, at the line of the next byte.
-    fn record_word_fault(&mut self, kind: FaultKind, word: ArrayString<128>) -> PieceLocation
+    fn record_word_fault(&mut self, kind: FaultKind, word: ArrayString<128>) -> Halt
         requires { 0 < length self.old.files.include_stack }
-        ensures place { result ≡ PieceLocation.Fault }
+        ensures place { result ≡ Halt.Fault }
         ensures kept { self.new ≡ record self.old { kept = Some (fault_at kind (inner_buffer self.old.files.include_stack).line word.bytes (state_of self.old)) } }
     {
         let line = self.files.file().buffer.line();
@@ -580,12 +579,12 @@ impl<S: Sources> Engine<S> {
     }
 
     // Keeps a fault of the open texts of a usage, at the line of the usage in the source.
-    fn record_text_fault(&mut self, fault: CursorFault) -> PieceLocation
+    fn record_text_fault(&mut self, fault: CursorFault) -> Halt
         requires include_stack { 0 < length self.old.files.include_stack }
         requires line { self.old.expansion.line < 2 ^ 63 }
         requires placed { IsTextPlaced (held_texts self.old) fault.word }
         requires word { IsWordBytes (place_bytes (held_texts self.old) fault.word) }
-        ensures place { result ≡ PieceLocation.Fault }
+        ensures place { result ≡ Halt.Fault }
         ensures kept { self.new ≡ record self.old { kept = Some (fault_at fault.kind self.old.expansion.line (place_bytes (held_texts self.old) fault.word) (state_of self.old)) } }
     {
         let word = word_of(self.text(fault.word));
@@ -594,9 +593,9 @@ impl<S: Sources> Engine<S> {
     }
 
     // Keeps that a read failed, at the line that is read.
-    fn record_read_fault(&mut self) -> PieceLocation
+    fn record_read_fault(&mut self) -> Halt
         requires { 0 < length self.old.files.include_stack }
-        ensures place { result ≡ PieceLocation.Fault }
+        ensures place { result ≡ Halt.Fault }
         ensures kept { self.new ≡ record self.old { kept = Some (fault_at FaultKind.ReadFailed (reading_line_of (inner_buffer self.old.files.include_stack)) [] (state_of self.old)) } }
     {
         let line = self.files.file().buffer.reading_line();
@@ -605,15 +604,10 @@ impl<S: Sources> Engine<S> {
     }
 
     // Keeps a fault at a physical line of the innermost source.
-    fn record_fault_at(
-        &mut self,
-        kind: FaultKind,
-        line: u64,
-        word: ArrayString<128>,
-    ) -> PieceLocation
+    fn record_fault_at(&mut self, kind: FaultKind, line: u64, word: ArrayString<128>) -> Halt
         requires open { 0 < length self.old.files.include_stack }
         requires line { line < 2 ^ 63 }
-        ensures place { result ≡ PieceLocation.Fault }
+        ensures place { result ≡ Halt.Fault }
         ensures kept { self.new ≡ record self.old { kept = Some (fault_at kind line word.bytes (state_of self.old)) } }
     {
         self.files.facts();
@@ -625,13 +619,13 @@ impl<S: Sources> Engine<S> {
             line: file.shift.shown_line(line),
             word,
         });
-        PieceLocation::Fault
+        Halt::Fault
     }
 
     // Keeps that a conditional is open where its source ends, at the line that the conditional showed.
-    fn record_unclosed_fault(&mut self, line: u64) -> PieceLocation
+    fn record_unclosed_fault(&mut self, line: u64) -> Halt
         requires { 0 < length self.old.files.include_stack }
-        ensures place { result ≡ PieceLocation.Fault }
+        ensures place { result ≡ Halt.Fault }
         ensures kept { self.new ≡ record self.old { kept = Some (unclosed_fault line (state_of self.old)) } }
     {
         self.kept = Some(Fault {
@@ -640,15 +634,14 @@ impl<S: Sources> Engine<S> {
             line,
             word: ArrayString::new(),
         });
-        PieceLocation::Fault
+        Halt::Fault
     }
 
     // Keeps that more bytes are due than the output may have, which is told at line 0 under the main
     // text's name.
     #[tactic(auto, unfolding(rdlpp_meaning::specs::Outcome::report_of, rdlpp_state::specs::Remaining::output_fault))]
-    fn record_output_fault(&mut self) -> PieceLocation
-        ensures place { result ≡ PieceLocation.Fault }
-        ensures kept { self.new ≡ record self.old { kept = Some (output_fault self.old.main) } }
+    fn record_output_fault(&mut self)
+        ensures { self.new ≡ record self.old { kept = Some (output_fault self.old.main) } }
     {
         self.kept = Some(Fault {
             kind: FaultKind::OutputBytes,
@@ -656,7 +649,6 @@ impl<S: Sources> Engine<S> {
             line: 0,
             word: ArrayString::new(),
         });
-        PieceLocation::Fault
     }
 
     // Keeps that a write failed, which is told at line 0 under the main text's name.

@@ -46,13 +46,13 @@ use Rattle.rdlpp_state.specs.Held.{IsBounded}
 use Rattle.rdlpp_state.specs.Moves.{IsReady, LooksAtName}
 use Rattle.rdlpp_state.specs.OpenConditionals.{AreConditions, inner_below, inner_shown}
 use Rattle.rdlpp_state.specs.Pending.{PendingView, line_ends_pending, nothing_pending, pending_bytes}
-use Rattle.rdlpp_state.specs.Pieces.{lent_answer, step_answer}
+use Rattle.rdlpp_state.specs.Pieces.{halted_answer, silent_answer}
 use Rattle.rdlpp_state.specs.Positions.{Unmarked}
 use Rattle.rdlpp_state.specs.Remaining.{file_state, inner_name, include_stack_state, run_rules, state_of}
 use Rattle.rdlpp_state.specs.Standing.{InSources, Nowhere}
 use Rattle.rdlpp_state.specs.Steps.{IsOwn, UncutStep}
-use Rattle.rdlpp_state.specs.declared.place.PieceLocation.{PieceLocation}
-use Rattle.rdlpp_state.specs.declared.place.PieceLocation.TheVariants.{Fault}
+use Rattle.rdlpp_state.specs.declared.place.Halt.{Halt}
+use Rattle.rdlpp_state.specs.declared.place.Halt.TheVariants.{Fault}
 use Rattle.rdlpp_state.proofs.StackMoves.{Lands, branched, front_command, lands_counted, opened_at, passing_moves, lands_closed, lands_opened, lands_turned, used_state}
 use Rattle.rdlpp_state.proofs.DirectiveMoves.{Does, directive_steps, does_step, move_here, unnamed_steps}
 use Rattle.rdlpp_state.proofs.IncludeStackLeft.{IsPlainFront, live_place, place_inside, place_outside, place_skipped}
@@ -129,7 +129,7 @@ opened_by x holds len line old new v opens becomes shown =
     (refl, becomes ∙ ap (λ (w : ConditionsView). goes_past w len old) (opens.becomes ∙ ap (λ (n : ℕ). opened_with n holds old.conditions) shown))
 
 -- too many are open
-pub unopened_by : {S R A : Type 0} (kind : FaultKind) (holds : Bool) (len line : ℕ) (old new : EngineView S R) (v : ConditionsView) (place : PieceLocation) → Opens {A = A} (Err kind) line holds old.conditions v
+pub unopened_by : {S R A : Type 0} (kind : FaultKind) (holds : Bool) (len line : ℕ) (old new : EngineView S R) (v : ConditionsView) (place : Halt) → Opens {A = A} (Err kind) line holds old.conditions v
     → place ≡ Fault → new ≡ record (record old { conditions = v }) { kept = Some (fault_at kind (inner_buffer old.files.include_stack).line [] (state_of (record old { conditions = v }))) }
     → OpensOne holds len old new (Some place)
 unopened_by {S} {R} kind holds len line old new v place opens is becomes =
@@ -159,7 +159,7 @@ opening_test true name s = refl
 opening_test false name s = refl
 
 -- a test that is done is what is come to by it
-pub does_test : {S R : Type 0} (g : Ghosts S R) (old new : EngineView S R) (x : Test) (len : ℕ) (result : Option PieceLocation) (next : Bool → ConditionsView) (place : Bool → Place) (t : State) → IsOwnTest x
+pub does_test : {S R : Type 0} (g : Ghosts S R) (old new : EngineView S R) (x : Test) (len : ℕ) (result : Option Halt) (next : Bool → ConditionsView) (place : Bool → Place) (t : State) → IsOwnTest x
     → ((b : Bool) → Lands old.limits old.conditions (next b) old.table.macros old.files.include_stack (with_inner (consumed_file len 0) old.files.include_stack) (place b) t)
     → DoesByTest x next len old new result → Does g len old old new result (by_move x (λ b. Moves [] (place b) t))
 unfolding by_move goes_past
@@ -250,8 +250,8 @@ module _ {S R : Type 0} (g : Ghosts S R) (old new : EngineView S R) (ready : IsR
   placed d given len place is = ap (comes_to d given len) is
 
   -- an engine that does what a directive comes to there
-  steps : (d : Directive) (given : Option (List ℕ)) (len : ℕ) (result : Option PieceLocation) (place : Place) (m : Move) → Begins d held given len → place_of (inner_below old.files.include_stack) old.conditions ≡ place
-      → comes_to d given len place ≡ m → Does g len old old new result m → UncutStep g old new (step_answer new result)
+  steps : (d : Directive) (given : Option (List ℕ)) (len : ℕ) (result : Option Halt) (place : Place) (m : Move) → Begins d held given len → place_of (inner_below old.files.include_stack) old.conditions ≡ place
+      → comes_to d given len place ≡ m → Does g len old old new result m → UncutStep g old new (silent_answer new result)
   steps d given len result place m begins is comes does =
       directive_steps g old new ready bounded some plain d given len result begins (subst (Does g len old old new result) (sym (placed d given len place is ∙ comes)) does)
 
@@ -266,7 +266,7 @@ module _ {S R : Type 0} (g : Ghosts S R) (old new : EngineView S R) (ready : IsR
   -- the word of one that leaves skipped text skipped is used
   pub directive_word_steps : (d : Directive) (n m : ℕ) (o : Progress) (os : List Progress) → old.conditions.open_now ≡ o ∷ os → inner_below old.files.include_stack ≤ length os → old.conditions.skipped ≡ Some n
       → has_own_token d ≡ false → Passes (run_rules g old) d n m o (take (length os - inner_below old.files.include_stack) os) → IsDirective d held
-      → new ≡ goes_past (with_count m old.conditions) (length (directive_word d)) old → UncutStep g old new (step_answer new None)
+      → new ≡ goes_past (with_count m old.conditions) (length (directive_word d)) old → UncutStep g old new (silent_answer new None)
   unfolding goes_past
   directive_word_steps d n m o os is_open below skips word passes is becomes =
       does_step g old old new ready bounded refl (not_called g old.sources) (length (directive_word d)) None (Moves [] (Skipped m o (take (length os - inner_below old.files.include_stack) os)) here) (word_within d held is some)
@@ -290,7 +290,7 @@ module _ {S R : Type 0} (g : Ghosts S R) (old new : EngineView S R) (ready : IsR
     undef_here given len name is = ap (λ (n : Checked). undef_move n (Live own) here) is
 
     -- an `undef` whose name is refused
-    pub undef_unnamed : (a : Option Argument) (place : PieceLocation) → IsNamed Undef held a → LooksAtName a old new (Err place) → UncutStep g old new (lent_answer new place)
+    pub undef_unnamed : (a : Option Argument) (place : Halt) → IsNamed Undef held a → LooksAtName a old new (Err place) → UncutStep g old new (halted_answer new place)
     unfolding undef_move
     undef_unnamed a place named looks =
         unnamed_steps g old new ready bounded some plain Undef a place undef_wants named looks
@@ -299,7 +299,7 @@ module _ {S R : Type 0} (g : Ghosts S R) (old new : EngineView S R) (ready : IsR
     -- a macro is taken out
     pub undef_named : (a : Argument) (name : List ℕ) → IsNamed Undef held (Some a) → name_of (Some a) ≡ Fine name
         → new ≡ record old { table = record old.table { macros = without name old.table.macros }; files = record old.files { include_stack = with_inner (consumed_file a.stop 0) old.files.include_stack } }
-        → UncutStep g old new (step_answer new None)
+        → UncutStep g old new (silent_answer new None)
     unfolding undef_move
     undef_named a name named fine becomes =
         let macros = include_stack_macros old.limits old.table.macros old.conditions old.files.include_stack in
@@ -331,14 +331,14 @@ module _ {S R : Type 0} (g : Ghosts S R) (old new : EngineView S R) (ready : IsR
       wants : wants_name (opening_word defined) ≡ true
       wants = opening_wants (opening_word defined) (opening_opens defined)
 
-      pub opening_unnamed : (place : PieceLocation) → LooksAtName a old new (Err place) → UncutStep g old new (lent_answer new place)
+      pub opening_unnamed : (place : Halt) → LooksAtName a old new (Err place) → UncutStep g old new (halted_answer new place)
       unfolding by_move opening_within name_test
       opening_unnamed place looks =
           unnamed_steps g old new ready bounded some plain (opening_word defined) a place wants named looks
           (λ kind word faulty. placed (opening_word defined) _ _ (Live own) lives ∙ opening_here defined _ _ (NameFault kind word) faulty)
 
-      pub opening_named : (name : List ℕ) (result : Option PieceLocation) → name_of a ≡ Fine name
-          → OpensOne (test_of defined (is_some (macro_named old.table.macros name))) (given_len (opening_word defined) a) old new result → UncutStep g old new (step_answer new result)
+      pub opening_named : (name : List ℕ) (result : Option Halt) → name_of a ≡ Fine name
+          → OpensOne (test_of defined (is_some (macro_named old.table.macros name))) (given_len (opening_word defined) a) old new result → UncutStep g old new (silent_answer new result)
       unfolding conditions_left
       opening_named name result fine opens =
           let holds : Test = Holds (test_of defined (is_some (macro_named old.table.macros name))) in
@@ -360,7 +360,7 @@ module _ {S R : Type 0} (g : Ghosts S R) (old new : EngineView S R) (ready : IsR
     branch_word = begins_word d held _ _ branch_begins
 
     -- of a conditional that opened in skipped text, it is used
-    pub inner_steps : Meets d Inner (inner_below old.files.include_stack) old.conditions → new ≡ goes_past old.conditions (length (directive_word d)) old → UncutStep g old new (step_answer new None)
+    pub inner_steps : Meets d Inner (inner_below old.files.include_stack) old.conditions → new ≡ goes_past old.conditions (length (directive_word d)) old → UncutStep g old new (silent_answer new None)
     inner_steps (MeetsNone alone wrong) becomes = absurd (cc)
     inner_steps (MeetsOwn own) becomes = absurd own.turns
     inner_steps (MeetsInner n o os is_open below skips same) becomes =
@@ -369,8 +369,8 @@ module _ {S R : Type 0} (g : Ghosts S R) (old new : EngineView S R) (ready : IsR
 
     -- of the innermost conditional, it goes by its test
     turn_steps : (branch : Branch) (own : OwnTurn d branch (inner_below old.files.include_stack) old.conditions) (test : Command → State → Test) → HasTest own.conditional d test
-        → (result : Option PieceLocation) (x : Test) → ((c : Command) → c.given ≡ given_by held a → test c here ≡ x) → IsOwnTest x
-        → DoesByTest x (λ t. turned_with d t old.conditions) (given_len d a) old new result → UncutStep g old new (step_answer new result)
+        → (result : Option Halt) (x : Test) → ((c : Command) → c.given ≡ given_by held a → test c here ≡ x) → IsOwnTest x
+        → DoesByTest x (λ t. turned_with d t old.conditions) (given_len d a) old new result → UncutStep g old new (silent_answer new result)
     turn_steps branch own test turns result x is owns does =
         let around = take (length own.around - inner_below old.files.include_stack) own.around in
         let next : Bool → Place = λ t. in_branch t (branched own.conditional t (is_else d)) around in
@@ -381,8 +381,8 @@ module _ {S R : Type 0} (g : Ghosts S R) (old new : EngineView S R) (ready : IsR
         (λ t. lands_turned old.limits old.table.macros old.conditions (given_len d a) own.conditional own.around own.is_open old.files.include_stack d t ready.include_stack own.within) does)
 
     -- it is refused
-    pub refused_steps : (place : PieceLocation) (kind : FaultKind) → Meets d (Refused kind) (inner_below old.files.include_stack) old.conditions → place ≡ Fault
-        → new ≡ record old { kept = Some (fault_at kind (inner_buffer old.files.include_stack).line [] (state_of old)) } → UncutStep g old new (lent_answer new place)
+    pub refused_steps : (place : Halt) (kind : FaultKind) → Meets d (Refused kind) (inner_below old.files.include_stack) old.conditions → place ≡ Fault
+        → new ≡ record old { kept = Some (fault_at kind (inner_buffer old.files.include_stack).line [] (state_of old)) } → UncutStep g old new (halted_answer new place)
     refused_steps place kind (MeetsNone alone same) is becomes =
         steps d _ _ (Some place) (Live []) _ branch_begins (place_outside (inner_below old.files.include_stack) old.conditions alone) (stray_by (run_rules g old) d _ _ _ _ here (given_branches d held a given))
         (ap Some is, becomes ∙ ap (λ (k : FaultKind). record old { kept = Some (fault_at k (inner_buffer old.files.include_stack).line [] (state_of old)) }) (cc), own_kind _ refl)
@@ -391,19 +391,19 @@ module _ {S R : Type 0} (g : Ghosts S R) (old new : EngineView S R) (ready : IsR
     refused_steps place kind (MeetsInner n o os is_open below skips wrong) is becomes = absurd (cc)
 
     -- it is decided
-    pub decided_steps : (t : Bool) → OwnTurn d (Decided t) (inner_below old.files.include_stack) old.conditions → new ≡ goes_past (turned_with d t old.conditions) (given_len d a) old → UncutStep g old new (step_answer new None)
+    pub decided_steps : (t : Bool) → OwnTurn d (Decided t) (inner_below old.files.include_stack) old.conditions → new ≡ goes_past (turned_with d t old.conditions) (given_len d a) old → UncutStep g old new (silent_answer new None)
     decided_steps t own becomes = turn_steps (Decided t) own _ own.turns None (Holds t) (λ c e. refl) tt (refl, becomes)
 
     -- its name decides
     module _ (own : OwnTurn d Named (inner_below old.files.include_stack) old.conditions) where
-      pub turn_unnamed : (place : PieceLocation) → LooksAtName a old new (Err place) → UncutStep g old new (lent_answer new place)
+      pub turn_unnamed : (place : Halt) → LooksAtName a old new (Err place) → UncutStep g old new (halted_answer new place)
       unfolding name_test macro_name given_name
       turn_unnamed place looks =
           let r = looks.1 in
           turn_steps Named own _ own.turns.1 (Some place) (TestFault r.kind r.word) (λ c e. ap (λ (x : Option (List ℕ)). name_test true (given_name x) here) e ∙ ap (λ (n : Checked). name_test true n here) r.faulty) r.own (ap Some looks.0, r.becomes)
 
       pub turn_named : (name : List ℕ) → name_of a ≡ Fine name
-          → new ≡ goes_past (turned_with d (is_some (macro_named old.table.macros name)) old.conditions) (given_len d a) old → UncutStep g old new (step_answer new None)
+          → new ≡ goes_past (turned_with d (is_some (macro_named old.table.macros name)) old.conditions) (given_len d a) old → UncutStep g old new (silent_answer new None)
       unfolding name_test is_defined macro_name given_name
       turn_named name fine becomes =
           turn_steps Named own _ own.turns.1 None (Holds (is_some (macro_named old.table.macros name)))
@@ -411,8 +411,8 @@ module _ {S R : Type 0} (g : Ghosts S R) (old new : EngineView S R) (ready : IsR
           ∙ ap (λ (ms : List Macro). Holds (is_some (macro_named ms name))) (include_stack_macros old.limits old.table.macros old.conditions old.files.include_stack)) tt (refl, becomes)
 
   -- an `endif` that is stray
-  pub end_refused : (A : Type 0) (place : PieceLocation) (kind : FaultKind) (v : ConditionsView) → EndsOne {A = A} (Err kind) old.conditions v (inner_below old.files.include_stack) → IsDirective Endif held → place ≡ Fault
-      → new ≡ record (record old { conditions = v }) { kept = Some (fault_at kind (inner_buffer old.files.include_stack).line [] (state_of (record old { conditions = v }))) } → UncutStep g old new (lent_answer new place)
+  pub end_refused : (A : Type 0) (place : Halt) (kind : FaultKind) (v : ConditionsView) → EndsOne {A = A} (Err kind) old.conditions v (inner_below old.files.include_stack) → IsDirective Endif held → place ≡ Fault
+      → new ≡ record (record old { conditions = v }) { kept = Some (fault_at kind (inner_buffer old.files.include_stack).line [] (state_of (record old { conditions = v }))) } → UncutStep g old new (halted_answer new place)
   unfolding move_of closing_move
   end_refused A place kind v (EndsNone alone same stays) is kept becomes =
       let keeps : FaultKind → ConditionsView → EngineView S R = λ k w. record (record old { conditions = w }) { kept = Some (fault_at k (inner_buffer old.files.include_stack).line [] (state_of (record old { conditions = w }))) } in
@@ -423,7 +423,7 @@ module _ {S R : Type 0} (g : Ghosts S R) (old new : EngineView S R) (ready : IsR
 
   -- one that closes a conditional
   pub end_closes : (A : Type 0) (x : A) (v : ConditionsView) → EndsOne {A = A} (Ok x) old.conditions v (inner_below old.files.include_stack) → IsDirective Endif held
-      → new ≡ goes_past v (length (directive_word Endif)) old → UncutStep g old new (step_answer new None)
+      → new ≡ goes_past v (length (directive_word Endif)) old → UncutStep g old new (silent_answer new None)
   unfolding goes_past
   end_closes A x v (EndsNone alone wrong stays) is becomes = absurd (cc)
   end_closes A x v (EndsOwn live o os is_open below skips done moves) is becomes =
@@ -486,7 +486,7 @@ pub passes_text : {S R : Type 0} (g : Ghosts S R) (old new : EngineView S R) (so
     → new ≡ record old { pending = line_ends_pending lines; files = record old.files { include_stack = include_stack }; sources = sources }
     → (g.has_known_texts old.sources → left_by g old old.table.macros old.conditions old.files.include_stack ≡ after_bytes (line_ends_of w) (left_by g old old.table.macros old.conditions include_stack))
     → (g.has_known_texts old.sources → KeepsParts g.unread old.files.include_stack include_stack)
-    → UncutStep g old new (step_answer new None)
+    → UncutStep g old new (silent_answer new None)
 unfolding after_bytes
 passes_text {S} {R} g old new sources w lines include_stack ready bounded counted few used call becomes law parts =
     let pending : line_ends_of w ≡ pending_bytes (inner_name include_stack) (line_ends_pending lines) =
@@ -585,7 +585,7 @@ module _ {S R : Type 0} (g : Ghosts S R) (old new : EngineView S R) (ready : IsR
   pub stretch_steps : (mid : EngineView S R) (len lines : ℕ) (next : Mode) → IsPassed (inner_buffer old.files.include_stack).mode (held_of (inner_buffer old.files.include_stack)) len next → 0 < len
       → len ≤ length (held_of (inner_buffer old.files.include_stack)) → lines ≡ line_ends (take len (held_of (inner_buffer old.files.include_stack)))
       → mid ≡ record old { files = record old.files { include_stack = with_buffer (entered_mode (inner_buffer old.files.include_stack) next) old.files.include_stack } } → new ≡ passes_over len lines mid
-      → UncutStep g old new (step_answer new None)
+      → UncutStep g old new (silent_answer new None)
   unfolding passes_over
   stretch_steps mid len lines next passed positive inside counted enters uses =
       let b = inner_buffer old.files.include_stack in
@@ -604,7 +604,7 @@ module _ {S R : Type 0} (g : Ghosts S R) (old new : EngineView S R) (ready : IsR
   pub part_steps : (mid : EngineView S R) (len lines : ℕ) (next : Mode) → IsText (inner_buffer old.files.include_stack).mode (held_of (inner_buffer old.files.include_stack)) len next
       → lines ≡ line_ends (take len (held_of (inner_buffer old.files.include_stack)))
       → mid ≡ record old { files = record old.files { include_stack = with_buffer (entered_mode (inner_buffer old.files.include_stack) next) old.files.include_stack } } → new ≡ passes_over len lines mid
-      → UncutStep g old new (step_answer new None)
+      → UncutStep g old new (silent_answer new None)
   unfolding passes_over
   part_steps mid len lines next text counted enters uses =
       let b = inner_buffer old.files.include_stack in
@@ -624,7 +624,7 @@ module _ {S R : Type 0} (g : Ghosts S R) (old new : EngineView S R) (ready : IsR
 
   module _ (plain : (inner_buffer old.files.include_stack).mode ≡ Plain) where
     -- a word that doesn't count
-    pub word_steps : (len : ℕ) → IsSkippedWord (held_of (inner_buffer old.files.include_stack)) len → new ≡ passes_over len 0 old → UncutStep g old new (step_answer new None)
+    pub word_steps : (len : ℕ) → IsSkippedWord (held_of (inner_buffer old.files.include_stack)) len → new ≡ passes_over len 0 old → UncutStep g old new (silent_answer new None)
     unfolding passes_over
     word_steps len word becomes =
         let w = take len (held_of (inner_buffer old.files.include_stack)) in
@@ -636,7 +636,7 @@ module _ {S R : Type 0} (g : Ghosts S R) (old new : EngineView S R) (ready : IsR
 
     -- a `line`
     pub line_steps : (len lines : ℕ) → IsDirective Line (held_of (inner_buffer old.files.include_stack)) → len ≡ line_len (held_of (inner_buffer old.files.include_stack))
-        → lines ≡ line_ends (take len (held_of (inner_buffer old.files.include_stack))) → new ≡ passes_over len lines old → UncutStep g old new (step_answer new None)
+        → lines ≡ line_ends (take len (held_of (inner_buffer old.files.include_stack))) → new ≡ passes_over len lines old → UncutStep g old new (silent_answer new None)
     unfolding passes_over
     line_steps len lines is whole counted becomes =
         let held = held_of (inner_buffer old.files.include_stack) in
@@ -650,7 +650,7 @@ module _ {S R : Type 0} (g : Ghosts S R) (old new : EngineView S R) (ready : IsR
 
     -- a conditional that opens in skipped text
     pub opening_steps : (defined : Bool) (v : ConditionsView) → IsDirective (opening_word defined) (held_of (inner_buffer old.files.include_stack)) → v ≡ with_count (s.count + 1) old.conditions
-        → new ≡ goes_past v (length (directive_word (opening_word defined))) old → UncutStep g old new (step_answer new None)
+        → new ≡ goes_past v (length (directive_word (opening_word defined))) old → UncutStep g old new (silent_answer new None)
     opening_steps defined v is counts becomes =
         let one : s.count + 1 ≡ suc s.count = omega arith in
         let word = wants_word (opening_word defined) (opening_wants (opening_word defined) (opening_opens defined)) in
@@ -662,7 +662,7 @@ module _ {S R : Type 0} (g : Ghosts S R) (old new : EngineView S R) (ready : IsR
     module _ (is : IsDirective Define (held_of (inner_buffer old.files.include_stack))) (mid : EngineView S R) (r : IsRead g old mid) where
       pub define_steps : (len lines : ℕ) → HoldsLine (g.has_known_texts old.sources) g.unread (line.Whole len) (inner_buffer old.files.include_stack) (inner_buffer mid.files.include_stack) → SourcesCalled g false false old.sources mid.sources
           → 0 < len → len ≤ length (held_of (inner_buffer mid.files.include_stack)) → length (held_of (inner_buffer mid.files.include_stack)) < 2 ^ 31 → lines ≡ line_ends (take len (held_of (inner_buffer mid.files.include_stack)))
-          → new ≡ passes_over len lines mid → UncutStep g old new (step_answer new None)
+          → new ≡ passes_over len lines mid → UncutStep g old new (silent_answer new None)
       unfolding passes_over
       define_steps len lines holds call positive inside few counted becomes =
           let b = inner_buffer mid.files.include_stack in

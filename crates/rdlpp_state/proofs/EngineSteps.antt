@@ -18,14 +18,14 @@ use Rattle.rdlpp_state.specs.Held.{IsBounded}
 use Rattle.rdlpp_state.specs.Standing.{LendNone, LendsNone, LendsWhere, Reaches, StandsIn}
 use Rattle.rdlpp_state.proofs.Stores.{KeepsStores, keeps_refused, none_called}
 use Rattle.rdlpp_state.specs.Pending.{nothing_pending}
-use Rattle.rdlpp_state.specs.Pieces.{kept_answer, lent_answer}
+use Rattle.rdlpp_state.specs.Pieces.{halted_answer, kept_answer}
 use Rattle.rdlpp_state.specs.Positions.{position_of}
 use Rattle.rdlpp_state.specs.Remaining.{uncut_of, kept_uncut, output_fault, phase_uncut, state_of, text_of, work_left}
 use Rattle.rdlpp_state.specs.Steps.{EndsText, FailsAt, OnRead, Halts, HaltsAt, IsReading, AtFront, Itself, LendsText, StopsReading, StepSpec, TellsText, UncutStep, UncutStepWithin, all_of, may_follow, no_len, Tells, IsOwn, IsStarted, has_failed, has_met, has_refused, is_call_failed, is_memory_kind, is_read_failed, is_write_failed}
 use Rattle.rdlpp_state.specs.declared.phase.Phase.{Phase}
 use Rattle.rdlpp_state.specs.declared.phase.Phase.TheVariants.{Fresh, Open, OverLimit, Closed}
-use Rattle.rdlpp_state.specs.declared.place.PieceLocation.{PieceLocation}
-use Rattle.rdlpp_state.specs.declared.place.PieceLocation.TheVariants.{Fault as AtFault}
+use Rattle.rdlpp_state.specs.declared.place.Halt.{Halt}
+use Rattle.rdlpp_state.specs.declared.place.Halt.TheVariants.{Fault as AtFault}
 
 -- nothing was asked of the sources
 pub not_called : {S R : Type 0} (g : Ghosts S R) (sources : S) → SourcesCalled g false false sources sources
@@ -491,11 +491,11 @@ steps_passed {S} {R} g old new free past bounded becomes =
     }
 
 -- a fault that is kept is what is answered
-pub kept_lent : {S R : Type 0} (e : EngineView S R) (place : PieceLocation) (f : Report) → place ≡ AtFault → e.kept ≡ Some f → lent_answer e place ≡ Err f
-kept_lent e place f is kept = ap (lent_answer e) is ∙ ap kept_answer kept
+pub kept_lent : {S R : Type 0} (e : EngineView S R) (place : Halt) (f : Report) → place ≡ AtFault → e.kept ≡ Some f → halted_answer e place ≡ Err f
+kept_lent e place f is kept = ap (halted_answer e) is ∙ ap kept_answer kept
 
 -- a fault that is kept is what a step answers
-pub kept_at : {S R : Type 0} (g : Ghosts S R) (old new : EngineView S R) (place : PieceLocation) (f : Report) →
-    place ≡ AtFault → new.kept ≡ Some f → UncutStep g old new (Err f) → UncutStep g old new (lent_answer new place)
+pub kept_at : {S R : Type 0} (g : Ghosts S R) (old new : EngineView S R) (place : Halt) (f : Report) →
+    place ≡ AtFault → new.kept ≡ Some f → UncutStep g old new (Err f) → UncutStep g old new (halted_answer new place)
 kept_at g old new place f is kept steps =
     subst (λ (a : Result (Option (List ℕ)) Report). UncutStep g old new a) (sym (kept_lent new place f is kept)) steps

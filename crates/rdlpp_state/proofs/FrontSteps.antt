@@ -46,14 +46,15 @@ use Rattle.rdlpp_state.specs.Moves.{Defines, IsReady, IsDrained, ReadsDefine, Re
 use Rattle.rdlpp_state.specs.Marks.{MarksView, lends_line, lends_pending}
 use Rattle.rdlpp_state.specs.Pending.{PendingView, TakesPiece, digits_of, line_ends_pending, nothing_pending, origin_bytes, origin_pieces, pending_bytes, pending_pieces, part_bytes}
 use Rattle.rdlpp_state.specs.declared.pending.PendingPiece.{PendingPiece}
-use Rattle.rdlpp_state.specs.Pieces.{IsPlaced, lent_answer, step_answer}
+use Rattle.rdlpp_state.specs.Pieces.{IsPlaced, halted_answer, lent_answer, location_of, silent_answer}
 use Rattle.rdlpp_state.specs.Positions.{Unmarked, position_of}
 use Rattle.rdlpp_state.specs.Remaining.{file_state, inner_name, include_stack_left, include_stack_state, run_rules, source_rules, state_of, text_of, work_left}
 use Rattle.rdlpp_state.specs.Steps.{IsOwn, IsReading, UncutStep, is_memory_kind, is_read_failed, is_write_failed}
 use Rattle.rdlpp_state.specs.declared.phase.Phase.{Phase}
 use Rattle.rdlpp_state.specs.declared.phase.Phase.TheVariants.{Open}
-use Rattle.rdlpp_state.specs.declared.place.PieceLocation.{PieceLocation}
-use Rattle.rdlpp_state.specs.declared.place.PieceLocation.TheVariants.{Source, Pending, Fault}
+use Rattle.rdlpp_state.specs.declared.place.Halt.{Halt}
+use Rattle.rdlpp_state.specs.declared.place.Halt.TheVariants.{End, Fault}
+use Rattle.rdlpp_state.specs.declared.place.PieceLocation.TheVariants.{Source, Pending}
 use Rattle.rdlpp_usages.specs.Usages.{texts_left}
 use Rattle.rdlpp_state.proofs.Soundness.{inner_facts, text_idle, with_inner-length}
 use Rattle.rdlpp_front.proofs.TextLeft.{define_begins}
@@ -237,10 +238,10 @@ unfolding fault_at
 told_kind kind line word s own = own
 
 -- a fault of the text is kept, as it is told in the state that the text goes on from
-pub refuses_by : {S R : Type 0} (g : Ghosts S R) (old mid new : EngineView S R) (place : PieceLocation) (tell : State → Report) → ((s : State) → IsOwn (tell s).kind) → IsReady old → IsRead g old mid → IsBounded new
+pub refuses_by : {S R : Type 0} (g : Ghosts S R) (old mid new : EngineView S R) (place : Halt) (tell : State → Report) → ((s : State) → IsOwn (tell s).kind) → IsReady old → IsRead g old mid → IsBounded new
     → place ≡ Fault → new ≡ record mid { kept = Some (tell (state_of mid)) } → SourcesCalled g false false old.sources mid.sources
     → (g.has_known_texts old.sources → left_by g old old.table.macros old.conditions old.files.include_stack ≡ leaves (fails (tell (state_of old))) (state_of old))
-    → UncutStep g old new (lent_answer new place)
+    → UncutStep g old new (halted_answer new place)
 unfolding state_of
 refuses_by {S} {R} g old mid new place tell own ready r bounded is becomes call law =
     let f = tell (state_of mid) in
@@ -254,18 +255,18 @@ refuses_by {S} {R} g old mid new place tell own ready r bounded is becomes call 
     (keeps_read g old mid new f ready r becomes call.catalog (own_stops new f (ap (λ e. e.kept) becomes) (own_failed f.kind (own (state_of mid))))))
 
 -- a fault at a line of the source is kept
-pub refuses : {S R : Type 0} (g : Ghosts S R) (old mid new : EngineView S R) (place : PieceLocation) (kind : FaultKind) (line : ℕ) (word : List ℕ) → IsReady old → IsRead g old mid → IsBounded new
+pub refuses : {S R : Type 0} (g : Ghosts S R) (old mid new : EngineView S R) (place : Halt) (kind : FaultKind) (line : ℕ) (word : List ℕ) → IsReady old → IsRead g old mid → IsBounded new
     → place ≡ Fault → new ≡ record mid { kept = Some (fault_at kind line word (state_of mid)) } → IsOwn kind → SourcesCalled g false false old.sources mid.sources
     → (g.has_known_texts old.sources → left_by g old old.table.macros old.conditions old.files.include_stack ≡ leaves (fails (fault_at kind line word (state_of old))) (state_of old))
-    → UncutStep g old new (lent_answer new place)
+    → UncutStep g old new (halted_answer new place)
 refuses g old mid new place kind line word ready r bounded is becomes own call law =
     refuses_by g old mid new place (λ s. fault_at kind line word s) (λ s. told_kind kind line word s own) ready r bounded is becomes call law
 
 -- a failed read is kept
-pub fails_reading : {S R : Type 0} (g : Ghosts S R) (old mid new : EngineView S R) (place : PieceLocation) → IsReady old → IsRead g old mid → IsReading (inner_buffer mid.files.include_stack) → IsBounded new
+pub fails_reading : {S R : Type 0} (g : Ghosts S R) (old mid new : EngineView S R) (place : Halt) → IsReady old → IsRead g old mid → IsReading (inner_buffer mid.files.include_stack) → IsBounded new
     → place ≡ Fault → new ≡ record mid { kept = Some (fault_at fault.ReadFailed (reading_line_of (inner_buffer mid.files.include_stack)) [] (state_of mid)) } → SourcesCalled g true false old.sources mid.sources
     → (g.has_known_texts old.sources → left_by g old old.table.macros old.conditions old.files.include_stack ≡ left_by g old old.table.macros old.conditions (with_buffer (inner_buffer mid.files.include_stack) old.files.include_stack))
-    → UncutStep g old new (lent_answer new place)
+    → UncutStep g old new (halted_answer new place)
 unfolding state_of
 fails_reading {S} {R} g old mid new place ready r reading bounded is becomes call law =
     let told : EngineView S R → Report = λ e. fault_at fault.ReadFailed (reading_line_of (inner_buffer e.files.include_stack)) [] (include_stack_state e.limits e.table.macros e.conditions e.files.include_stack) in
@@ -329,7 +330,7 @@ module _ {S R : Type 0} (g : Ghosts S R) (old mid new : EngineView S R) (len : �
     (holds : HoldsLine (g.has_known_texts old.sources) g.unread (line.Whole len) (inner_buffer old.files.include_stack) (inner_buffer mid.files.include_stack))
     (call : SourcesCalled g false false old.sources mid.sources) where
   -- it is accepted
-  accepted_steps : 7 ≤ len → len ≤ length (held_of (inner_buffer mid.files.include_stack)) → length (held_of (inner_buffer mid.files.include_stack)) < 2 ^ 31 → Defines len mid new → UncutStep g old new (step_answer new None)
+  accepted_steps : 7 ≤ len → len ≤ length (held_of (inner_buffer mid.files.include_stack)) → length (held_of (inner_buffer mid.files.include_stack)) < 2 ^ 31 → Defines len mid new → UncutStep g old new (silent_answer new None)
   unfolding source_rules rules_of with_fault after_bytes
   accepted_steps wide inside few d =
       let inner = inner_facts old.files ready.include_stack ready.files in
@@ -362,7 +363,7 @@ module _ {S R : Type 0} (g : Ghosts S R) (old mid new : EngineView S R) (len : �
       (parts_used g.unread len d.lines (with_buffer b old.files.include_stack))) (Nowhere refl (InSources ready.idle refl (Unmarked refl))))
 
   -- it is refused
-  refused_steps : (place : PieceLocation) → place ≡ Fault → RefusesDefine len mid new → UncutStep g old new (lent_answer new place)
+  refused_steps : (place : Halt) → place ≡ Fault → RefusesDefine len mid new → UncutStep g old new (halted_answer new place)
   unfolding source_rules rules_of with_fault state_of
   refused_steps place is d =
       let inner = inner_facts old.files ready.include_stack ready.files in
@@ -376,16 +377,16 @@ module _ {S R : Type 0} (g : Ghosts S R) (old mid new : EngineView S R) (len : �
       some inner.ends plain define holds (ap with_fault refused)
       ∙ rw here refl)
 
-  pub defined_steps : (result : Option PieceLocation) → 7 ≤ len → len ≤ length (held_of (inner_buffer mid.files.include_stack)) → length (held_of (inner_buffer mid.files.include_stack)) < 2 ^ 31 → ReadsDefine len mid new result → UncutStep g old new (step_answer new result)
+  pub defined_steps : (result : Option Halt) → 7 ≤ len → len ≤ length (held_of (inner_buffer mid.files.include_stack)) → length (held_of (inner_buffer mid.files.include_stack)) < 2 ^ 31 → ReadsDefine len mid new result → UncutStep g old new (silent_answer new result)
   defined_steps None wide inside few reads = accepted_steps wide inside few reads
   defined_steps (Some Fault) wide inside few reads = refused_steps Fault refl reads
   defined_steps _ wide inside few reads = absurd reads
 
--- a `define` leaves no place, or the fault that is kept
-pub defined_placed : {S R : Type 0} (len : ℕ) (old new : EngineView S R) (result : Option PieceLocation) → ReadsDefine len old new result → IfSome result (IsPlaced new)
-defined_placed len old new None reads = tt
-defined_placed len old new (Some Fault) reads = tt
-defined_placed len old new _ reads = absurd reads
+-- where it stands that nothing is lent lies in what is held
+pub halt_placed : {S R : Type 0} (e : EngineView S R) (halt : Option Halt) → IfSome (location_of halt) (IsPlaced e)
+halt_placed e None = tt
+halt_placed e (Some End) = tt
+halt_placed e (Some Fault) = tt
 
 -- bytes in front of bytes
 pub after_twice : (x y : List ℕ) (p : Passage) → after_bytes (x ++ y) p ≡ after_bytes x (after_bytes y p)
@@ -573,8 +574,8 @@ pub defined_same : (b n : ℕ) (macros : List Macro) (r1 r2 : List ℕ) (o : tab
 defined_same b n macros r1 r2 o e r = rw (← r) (sym e)
 
 -- a refused `define`, at a place
-pub reads_refused : {S R : Type 0} (len : ℕ) (old new : EngineView S R) (place : PieceLocation) → place ≡ Fault → RefusesDefine len old new → ReadsDefine len old new (Some place)
-reads_refused {S} {R} len old new place is refuses = subst (λ (p : PieceLocation). ReadsDefine len old new (Some p)) (sym is) refuses
+pub reads_refused : {S R : Type 0} (len : ℕ) (old new : EngineView S R) (place : Halt) → place ≡ Fault → RefusesDefine len old new → ReadsDefine len old new (Some place)
+reads_refused {S} {R} len old new place is refuses = subst (λ (p : Halt). ReadsDefine len old new (Some p)) (sym is) refuses
 
 -- a table of which only the macros changed
 table_same : (old new : TableView) → new.most_bytes ≡ old.most_bytes → new.most_macros ≡ old.most_macros → new ≡ record old { macros = new.macros }

@@ -1,5 +1,5 @@
 -- Sources that an `include` opens, and their end, as steps of the engine.
-use Rattle.std.proofs.Common.{◌≡◌, ℕ, suc, ◌-◌, ◌≤◌, ◌<◌, Bool, true, false, ◌==◌, List, [], ◌∷◌, ◌++◌, length, take, drop, None, refl, sym, ap, ◌∙◌, arith, ◌+◌, Some, Result, Ok, Err, subst, ◌^◌, Option, inl, inr, IfSome, if◌then◌else◌, max, IsUtf8, length-drop}
+use Rattle.std.proofs.Common.{◌≡◌, ℕ, suc, ◌-◌, ◌≤◌, ◌<◌, Bool, true, false, ◌==◌, List, [], ◌∷◌, ◌++◌, length, take, drop, None, refl, sym, ap, ◌∙◌, arith, ◌+◌, Some, Result, Ok, Err, subst, ◌^◌, Option, inl, inr, if◌then◌else◌, max, IsUtf8, length-drop}
 use Rattle.std.specs.Str.{is_utf8}
 use Rattle.std.proofs.lemmas.Bool.{or_right}
 use Rattle.std.proofs.lemmas.List.Elements.{All-head, All-same, All-tail}
@@ -49,14 +49,14 @@ use Rattle.rdlpp_state.specs.Marks.{MarksView, ends_line}
 use Rattle.rdlpp_state.specs.Moves.{Closes, Ends, IsReady, Returns, StopsOpen, StopsUnclosed}
 use Rattle.rdlpp_state.specs.OpenConditionals.{inner_below, outer_open}
 use Rattle.rdlpp_state.specs.Pending.{PendingView, nothing_pending, origin_pending, origin_pieces, pending_bytes, pending_pieces}
-use Rattle.rdlpp_state.specs.Pieces.{IsPlaced, lent_answer, step_answer}
+use Rattle.rdlpp_state.specs.Pieces.{halted_answer, silent_answer}
 use Rattle.rdlpp_state.specs.Positions.{AfterSource}
 use Rattle.rdlpp_state.specs.Remaining.{ending_after, file_state, find_of, inner_name, lookup_of, include_stack_left, include_stack_state, run_rules, source_rules, state_of, waiting_around}
 use Rattle.rdlpp_state.specs.Standing.{InSources, Nowhere}
 use Rattle.rdlpp_state.specs.Steps.{IsOwn, OnSearch, UncutStep, is_call_failed, is_memory_kind, is_read_failed, is_write_failed}
 use Rattle.rdlpp_state.specs.declared.phase.Phase.TheVariants.{Closed}
-use Rattle.rdlpp_state.specs.declared.place.PieceLocation.{PieceLocation}
-use Rattle.rdlpp_state.specs.declared.place.PieceLocation.TheVariants.{End, Fault, Pending, Source as SourcePlace, Text}
+use Rattle.rdlpp_state.specs.declared.place.Halt.{Halt}
+use Rattle.rdlpp_state.specs.declared.place.Halt.TheVariants.{End, Fault}
 use Rattle.rdlpp_state.proofs.IncludeStackLeft.{around, conditions_live, inner_below-same, live_place, include_stack_ended, include_stack_open}
 use Rattle.rdlpp_state.proofs.EngineSteps.{kept_at, not_called, walks_end, walks_stopped}
 use Rattle.rdlpp_state.proofs.FrontSteps.{Fails, IsRead, keeps_fault, keeps_files, keeps_moves, kept_text, left_by, lends_by, read_text, refuses, refuses_by, text_drained, read_sources}
@@ -197,7 +197,7 @@ module _ {S R : Type 0} (g : Ghosts S R) (old mid new : EngineView S R) (start s
       named_comes (suc (old.limits.includes - length old.files.include_stack)) found s.name_good (omega arith) finds
 
   -- an engine that does what it comes to
-  steps : (result : Option PieceLocation) (m : Move) → SourcesCalled g false false old.sources mid.sources → (g.has_known_texts old.sources → comes_to ≡ m) → Does g stop old mid new result m → UncutStep g old new (step_answer new result)
+  steps : (result : Option Halt) (m : Move) → SourcesCalled g false false old.sources mid.sources → (g.has_known_texts old.sources → comes_to ≡ m) → Does g stop old mid new result m → UncutStep g old new (silent_answer new result)
   steps result m call comes does =
       let within = string_inside (held_of (inner_buffer old.files.include_stack)) start stop has in
       does_step g old mid new ready bounded becomes call stop result m (omega (arith, within.0), within.1)
@@ -205,13 +205,13 @@ module _ {S R : Type 0} (g : Ghosts S R) (old mid new : EngineView S R) (start s
       (string_in_front_of g.unread (inner_buffer old.files.include_stack) (front g old ready live some plain) plain start stop has) (comes t)) does
 
   -- the text has a fault
-  refuse_steps : (place : PieceLocation) → place ≡ Fault → (kind : FaultKind) → IsOwn kind → SourcesCalled g false false old.sources mid.sources → KeepsKind kind
-      → (g.has_known_texts old.sources → comes_to ≡ Stops kind []) → UncutStep g old new (lent_answer new place)
+  refuse_steps : (place : Halt) → place ≡ Fault → (kind : FaultKind) → IsOwn kind → SourcesCalled g false false old.sources mid.sources → KeepsKind kind
+      → (g.has_known_texts old.sources → comes_to ≡ Stops kind []) → UncutStep g old new (halted_answer new place)
   refuse_steps place is kind owns call kept comes = steps (Some place) (Stops kind []) call comes (ap Some is, kept, owns)
 
   -- the search failed
-  stopped_steps : (place : PieceLocation) → place ≡ Fault → (kind : FaultKind) → is_call_failed kind ≡ true → is_write_failed kind ≡ false → SourcesCalled g (is_read_failed kind) (is_memory_kind kind) old.sources mid.sources
-      → KeepsKind kind → is_bad_name name_of ≡ false → length old.files.include_stack < old.files.slots → UncutStep g old new (lent_answer new place)
+  stopped_steps : (place : Halt) → place ≡ Fault → (kind : FaultKind) → is_call_failed kind ≡ true → is_write_failed kind ≡ false → SourcesCalled g (is_read_failed kind) (is_memory_kind kind) old.sources mid.sources
+      → KeepsKind kind → is_bad_name name_of ≡ false → length old.files.include_stack < old.files.slots → UncutStep g old new (halted_answer new place)
   unfolding fault_at state_of
   stopped_steps place is kind met write call kept good room =
       let told : EngineView S R → Report = λ e. fault_at kind (inner_buffer e.files.include_stack).line [] (include_stack_state e.limits e.table.macros e.conditions e.files.include_stack) in
@@ -236,7 +236,7 @@ module _ {S R : Type 0} (g : Ghosts S R) (old mid new : EngineView S R) (start s
       (keeps_searched g old (told mid) mid.sources ready.free ready.idle call.catalog)))
 
   -- what is found is what the rules find
-  finds_as : (fault : SourceFault) → Searches g old name_of mid.sources (Err fault) → (place : PieceLocation) → place ≡ Fault → KeepsKind (kind_of_source fault) → UncutStep g old new (lent_answer new place)
+  finds_as : (fault : SourceFault) → Searches g old name_of mid.sources (Err fault) → (place : Halt) → place ≡ Fault → KeepsKind (kind_of_source fault) → UncutStep g old new (halted_answer new place)
   unfolding kind_of_source is_call_failed is_read_failed is_write_failed is_memory_kind source_rules rules_of find_of lookup_of found_move
   finds_as source.Absent s place is kept = refuse_steps place is SourceNotFound (own_kind _ refl) s.call kept (λ t. searched_comes (Err source.Absent) NoSource s (ap lookup_of (s.answers t)))
   finds_as source.PathTooLong s place is kept = refuse_steps place is PathTooLong (own_kind _ refl) s.call kept (λ t. searched_comes (Err source.PathTooLong) LongPath s (ap lookup_of (s.answers t)))
@@ -244,7 +244,7 @@ module _ {S R : Type 0} (g : Ghosts S R) (old mid new : EngineView S R) (start s
   finds_as source.NoMemory s place is kept = stopped_steps place is SourceMemory refl refl s.call kept s.name_good s.room
 
   -- nothing is opened
-  pub denied_steps : (place : PieceLocation) (kind : FaultKind) → place ≡ Fault → Denies g old name_of mid.sources kind → KeepsKind kind → UncutStep g old new (lent_answer new place)
+  pub denied_steps : (place : Halt) (kind : FaultKind) → place ≡ Fault → Denies g old name_of mid.sources kind → KeepsKind kind → UncutStep g old new (halted_answer new place)
   unfolding found_move
   denied_steps place kind is (BadName bad named same) kept =
       refuse_steps place is IncludeName (own_kind _ refl) (subst (λ (s : S). SourcesCalled g false false old.sources s) (sym same) (not_called g old.sources)) (subst KeepsKind named kept)
@@ -256,7 +256,7 @@ module _ {S R : Type 0} (g : Ghosts S R) (old mid new : EngineView S R) (start s
   denied_steps place kind is (SearchFault fault named s) kept = finds_as fault s place is (subst KeepsKind named kept)
 
   -- a source is opened
-  pub entered_steps : (found : Found R) → Searches g old name_of mid.sources (Ok found) → new ≡ included_engine found stop mid → UncutStep g old new (step_answer new None)
+  pub entered_steps : (found : Found R) → Searches g old name_of mid.sources (Ok found) → new ≡ included_engine found stop mid → UncutStep g old new (silent_answer new None)
   unfolding source_rules rules_of find_of lookup_of found_move
   entered_steps found s enters =
       steps None (Enters (origin_line (run_rules g old) found.path.bytes 1) (own g old ready live some plain) found.path.bytes (g.unread found.reader)) s.call
@@ -431,7 +431,7 @@ module _ {S R : Type 0} (g : Ghosts S R) (old mid new : EngineView S R) (ready :
         closed = ap (λ e. e.files.include_stack) becomes;
       })
 
-  ended_open : StopsOpen mid new → UncutStep g old new (lent_answer new Fault)
+  ended_open : StopsOpen mid new → UncutStep g old new (halted_answer new Fault)
   unfolding state_of
   ended_open stops =
       let b = inner_buffer mid.files.include_stack in
@@ -443,7 +443,7 @@ module _ {S R : Type 0} (g : Ghosts S R) (old mid new : EngineView S R) (ready :
       (tokens ∙ (stops.tokens ∙ ap (only_broken stops.breach) fills.open_token_line))
       ∙ rw fills.open_token_line refl)
 
-  ended_unclosed : StopsUnclosed mid new → UncutStep g old new (lent_answer new Fault)
+  ended_unclosed : StopsUnclosed mid new → UncutStep g old new (halted_answer new Fault)
   unfolding state_of
   ended_unclosed stops =
       let o = stops.conditional in
@@ -479,26 +479,14 @@ module _ {S R : Type 0} (g : Ghosts S R) (old mid new : EngineView S R) (ready :
       ∙ ap (λ (x : List ℕ). after_bytes x (left_by g old old.table.macros old.conditions (drop 1 before))) (sym (pending_ending (g.catalog old.sources) old.limits old.origins before inner)))
       (λ t. parts_around g.unread before (g.catalog old.sources)) (Nowhere refl (InSources ready.idle refl (AfterSource refl))))
 
-  pub ended_steps : (place : Option PieceLocation) → Ends mid new place → UncutStep g old new (step_answer new place)
+  pub ended_steps : (place : Option Halt) → Ends mid new place → UncutStep g old new (silent_answer new place)
   ended_steps None ends = ended_back ends
-  ended_steps (Some (SourcePlace start end)) ends = absurd ends
-  ended_steps (Some (Text p)) ends = absurd ends
-  ended_steps (Some (Pending n)) ends = absurd ends
   ended_steps (Some End) ends = ended_text ends
   ended_steps (Some Fault) (inl ends) = ended_open ends
   ended_steps (Some Fault) (inr ends) = ended_unclosed ends
 
--- the end is a place, or none
-pub ended_placed : {S R : Type 0} (mid new : EngineView S R) (place : Option PieceLocation) → Ends mid new place → IfSome place (IsPlaced new)
-ended_placed mid new None ends = tt
-ended_placed mid new (Some (SourcePlace start end)) ends = absurd ends
-ended_placed mid new (Some (Text p)) ends = absurd ends
-ended_placed mid new (Some (Pending n)) ends = absurd ends
-ended_placed mid new (Some End) ends = tt
-ended_placed mid new (Some Fault) ends = tt
-
 -- a text that ended in a mode in which its end is a fault, at a place
-pub stops_open : {S R : Type 0} (old new : EngineView S R) (place : PieceLocation) (breach : Breach) (mode : Mode) (line : ℕ) →
+pub stops_open : {S R : Type 0} (old new : EngineView S R) (place : Halt) (breach : Breach) (mode : Mode) (line : ℕ) →
     place ≡ Fault → (inner_buffer old.files.include_stack).mode ≡ mode
     → ended_tokens mode (inner_buffer old.files.include_stack).open_token_line ≡ only_broken breach (inner_buffer old.files.include_stack).open_token_line
     → IsOwn (breach_kind breach) → line ≡ (inner_buffer old.files.include_stack).open_token_line →
@@ -506,7 +494,7 @@ pub stops_open : {S R : Type 0} (old new : EngineView S R) (place : PieceLocatio
 stops_open {S} {R} old new place breach mode line is at_mode tokens own opened becomes =
     let b = inner_buffer old.files.include_stack in
     let keeps : ℕ → EngineView S R = λ n. record old { kept = Some (fault_at (breach_kind breach) n [] (state_of old)) } in
-    subst (λ (p : PieceLocation). Ends old new (Some p)) (sym is) (inl (record {
+    subst (λ (p : Halt). Ends old new (Some p)) (sym is) (inl (record {
       breach = breach;
       tokens = ap (λ (m : Mode). ended_tokens m b.open_token_line) at_mode ∙ tokens;
       own = own;

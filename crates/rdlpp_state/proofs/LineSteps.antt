@@ -31,7 +31,7 @@ use Rattle.rdlpp_state.specs.Lines.{Renumbers, inner_blanks, renumbered_file}
 use Rattle.rdlpp_state.specs.Marks.{MarksView, ends_line}
 use Rattle.rdlpp_state.specs.Moves.{IsReady}
 use Rattle.rdlpp_state.specs.Pending.{PendingView, nothing_pending, origin_pending, pending_bytes}
-use Rattle.rdlpp_state.specs.Pieces.{step_answer}
+use Rattle.rdlpp_state.specs.Pieces.{silent_answer}
 use Rattle.rdlpp_state.specs.Positions.{AfterLine}
 use Rattle.rdlpp_state.specs.Remaining.{file_state, inner_name, include_stack_left, include_stack_state, run_rules, state_of}
 use Rattle.rdlpp_state.specs.Standing.{InSources, Nowhere}
@@ -152,7 +152,7 @@ some_inner change (f ∷ outer) some = some
 pub take_renumbered : {S R : Type 0} (g : Ghosts S R) (old new : EngineView S R) (given : GivenLine) → IsReady old → old.conditions.skipped ≡ None → IsBounded new
     → 0 < length (held_of (inner_buffer old.files.include_stack)) → (inner_buffer old.files.include_stack).mode ≡ Plain → IsDirective Line (held_of (inner_buffer old.files.include_stack))
     → inner_blanks old.files.include_stack ≡ true → LineGiven (drop 5 (held_of (inner_buffer old.files.include_stack))) given → 5 + given.stop ≤ length (held_of (inner_buffer old.files.include_stack))
-    → Renumbers given old new → UncutStep g old new (step_answer new None)
+    → Renumbers given old new → UncutStep g old new (silent_answer new None)
 unfolding after_bytes
 take_renumbered {S} {R} g old new given ready live bounded some plain is first has inside d =
     let inner = inner_facts old.files ready.include_stack ready.files in

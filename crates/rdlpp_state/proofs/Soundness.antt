@@ -35,8 +35,8 @@ use Rattle.rdlpp_state.specs.Pending.{pending_bytes}
 use Rattle.rdlpp_state.specs.Remaining.{file_state, inner_name, include_stack_left, include_stack_state, run_rules, state_of, text_of}
 use Rattle.rdlpp_state.specs.declared.phase.Phase.{Phase}
 use Rattle.rdlpp_state.specs.declared.phase.Phase.TheVariants.{Closed, Fresh, Open, OverLimit}
-use Rattle.rdlpp_state.specs.declared.place.PieceLocation.{PieceLocation as EnginePlace}
-use Rattle.rdlpp_state.specs.declared.place.PieceLocation.TheVariants.{Fault}
+use Rattle.rdlpp_state.specs.declared.place.Halt.{Halt}
+use Rattle.rdlpp_state.specs.declared.place.Halt.TheVariants.{Fault}
 use Rattle.rdlpp_state.proofs.IncludeStackLeft.{Deep, Inside, Outside, Standing, conditions_closed, conditions_inner, conditions_left, conditions_live, conditions_none, conditions_opened, place_inside, place_outside, place_skipped, standing}
 
 -- Where no text of a usage is open, the text goes on in the open sources.
@@ -493,7 +493,7 @@ ended_alone below v (LeavesNone alone same) = alone
 ended_alone below v (LeavesOne o os is_open most wrong) = absurd (cc)
 
 -- or one, whose fault is kept
-pub stops_unclosed : {S R : Type 0} (old new : EngineView S R) (place : EnginePlace) (line : ℕ) → (inner_buffer old.files.include_stack).mode ≡ Plain → LeavesOpen (Some line) (inner_below old.files.include_stack) old.conditions
+pub stops_unclosed : {S R : Type 0} (old new : EngineView S R) (place : Halt) (line : ℕ) → (inner_buffer old.files.include_stack).mode ≡ Plain → LeavesOpen (Some line) (inner_below old.files.include_stack) old.conditions
     → place ≡ Fault → new ≡ record old { kept = Some (unclosed_fault line (state_of old)) } → Ends old new (Some place)
 stops_unclosed old new place line plain (LeavesNone alone wrong) is becomes = absurd (cc)
 stops_unclosed {S} {R} old new place line plain (LeavesOne o os is_open most same) is becomes = grind arith

@@ -42,12 +42,13 @@ use Rattle.rdlpp_state.specs.Held.{IsBounded}
 use Rattle.rdlpp_state.specs.Marks.{lends_usage}
 use Rattle.rdlpp_state.specs.Moves.{IsReady, IsDrained}
 use Rattle.rdlpp_state.specs.Pending.{nothing_pending, pending_bytes, pending_pieces}
-use Rattle.rdlpp_state.specs.Pieces.{held_texts, lent_answer}
+use Rattle.rdlpp_state.specs.Pieces.{halted_answer, held_texts, lent_answer}
 use Rattle.rdlpp_state.specs.Remaining.{file_state, inner_name, include_stack_left, include_stack_state, run_rules, source_rules, state_of, text_of, work_left}
 use Rattle.rdlpp_state.specs.Standing.{AtCursor, InTexts, Nowhere, OpensText, OpensUsage, Turns}
 use Rattle.rdlpp_state.specs.Steps.{BeforeCall, HaltsAt, InCall, IsOwn, OnRead, StopsInCall, UncutStep, is_call_failed, is_memory_kind, is_read_failed, is_write_failed}
-use Rattle.rdlpp_state.specs.declared.place.PieceLocation.{PieceLocation}
-use Rattle.rdlpp_state.specs.declared.place.PieceLocation.TheVariants.{Fault, Text}
+use Rattle.rdlpp_state.specs.declared.place.Halt.{Halt}
+use Rattle.rdlpp_state.specs.declared.place.Halt.TheVariants.{Fault}
+use Rattle.rdlpp_state.specs.declared.place.PieceLocation.TheVariants.{Text}
 use Rattle.rdlpp_state.proofs.WorkFacts.{IsUsed, cursors_fall, held_room, idle_digits, work_opens}
 use Rattle.rdlpp_state.proofs.IncludeSteps.{include_stack_macros}
 use Rattle.rdlpp_state.proofs.EngineSteps.{called, kept_at, no_part, not_called, reaches_same, walks_ceased, walks_fault, walks_kept, walks_lent}
@@ -170,9 +171,9 @@ module _ {S R : Type 0} (g : Ghosts S R) (old : EngineView S R) (x : ExpansionVi
       (keeps_texts g old x old.marks drained.free t.stays t.outer t.lets_go) (Nowhere refl (InTexts drained.pending refl t.step t.turns t.sound))
 
 -- the open texts end with a fault, and nothing else changes
-pub texts_refuse : {S R : Type 0} (g : Ghosts S R) (old mid new : EngineView S R) (place : PieceLocation) (fault : CursorFault) → IsDrained old → IsBounded new → mid ≡ old → place ≡ Fault
+pub texts_refuse : {S R : Type 0} (g : Ghosts S R) (old mid new : EngineView S R) (place : Halt) (fault : CursorFault) → IsDrained old → IsBounded new → mid ≡ old → place ≡ Fault
     → new ≡ record mid { kept = Some (fault_at fault.kind mid.expansion.line (place_bytes (held_texts mid) fault.word) (state_of mid)) } → is_text_fault fault.kind ≡ true
-    → IsStep old.expansion.line old.expansion.depth (held_texts old) old.expansion.opens (RefusedStep fault) mid.expansion.opens → UncutStep g old new (lent_answer new place)
+    → IsStep old.expansion.line old.expansion.depth (held_texts old) old.expansion.opens (RefusedStep fault) mid.expansion.opens → UncutStep g old new (halted_answer new place)
 unfolding IsStep StepsTo state_of text_of
 texts_refuse {S} {R} g old mid new place fault drained bounded same is kept own step =
     let word = place_bytes (held_texts old) fault.word in
@@ -214,8 +215,8 @@ module _ {S R : Type 0} (g : Ghosts S R) (old : EngineView S R) (x : ExpansionVi
       (texts_turn g old x drained holds (subst (λ (e : EngineView S R). IsBounded e) becomes bounded) (subst (λ (r : CursorStep). TakesUsageStep old.table.macros old.expansion r x) is takes))
 
   -- one that is refused
-  pub refuse_step : (mid new : EngineView S R) (place : PieceLocation) (fault : CursorFault) → result ≡ RefusedStep fault → mid ≡ record old { expansion = x } → IsBounded new → place ≡ Fault
-      → new ≡ record mid { kept = Some (fault_at fault.kind mid.expansion.line (place_bytes (held_texts mid) fault.word) (state_of mid)) } → is_text_fault fault.kind ≡ true → UncutStep g old new (lent_answer new place)
+  pub refuse_step : (mid new : EngineView S R) (place : Halt) (fault : CursorFault) → result ≡ RefusedStep fault → mid ≡ record old { expansion = x } → IsBounded new → place ≡ Fault
+      → new ≡ record mid { kept = Some (fault_at fault.kind mid.expansion.line (place_bytes (held_texts mid) fault.word) (state_of mid)) } → is_text_fault fault.kind ≡ true → UncutStep g old new (halted_answer new place)
   unfolding StaysAt
   refuse_step mid new place fault is becomes bounded at kept own =
       let t : TakesUsageStep old.table.macros old.expansion (RefusedStep fault) x = subst (λ (r : CursorStep). TakesUsageStep old.table.macros old.expansion r x) is takes in
@@ -550,8 +551,8 @@ module _ {S R : Type 0} (g : Ghosts S R) (old mid : EngineView S R) (len : ℕ) 
       (OpensText len (subst (λ (e : EngineView S R). OpensUsage g len old e Opened) is o)))
 
   -- it is refused
-  pub refuses_step : (new : EngineView S R) (place : PieceLocation) (kind : FaultKind) → OpensUsage g len old mid (Refused kind) → IsBounded new → place ≡ Fault
-      → new ≡ record mid { kept = Some (fault_at kind (inner_buffer old.files.include_stack).line (usage_name (held_of (inner_buffer old.files.include_stack)) len) (state_of mid)) } → UncutStep g old new (lent_answer new place)
+  pub refuses_step : (new : EngineView S R) (place : Halt) (kind : FaultKind) → OpensUsage g len old mid (Refused kind) → IsBounded new → place ≡ Fault
+      → new ≡ record mid { kept = Some (fault_at kind (inner_buffer old.files.include_stack).line (usage_name (held_of (inner_buffer old.files.include_stack)) len) (state_of mid)) } → UncutStep g old new (halted_answer new place)
   refuses_step new place kind o bounded at kept =
       let line = (inner_buffer old.files.include_stack).line in
       let name = usage_name (held_of (inner_buffer old.files.include_stack)) len in
@@ -565,8 +566,8 @@ module _ {S R : Type 0} (g : Ghosts S R) (old mid : EngineView S R) (len : ℕ) 
       (called g false old.sources mid.sources o.call) (λ t s ws os macros. o.means (run_rules g old) s ws os (run_is s macros) t)))
 
   -- its call is broken
-  pub breaks_step : (new : EngineView S R) (place : PieceLocation) (kind : FaultKind) (own : ℕ) → OpensUsage g len old mid (Broken kind own) → IsBounded new → place ≡ Fault
-      → new ≡ record mid { kept = Some (fault_at kind own [] (state_of mid)) } → UncutStep g old new (lent_answer new place)
+  pub breaks_step : (new : EngineView S R) (place : Halt) (kind : FaultKind) (own : ℕ) → OpensUsage g len old mid (Broken kind own) → IsBounded new → place ≡ Fault
+      → new ≡ record mid { kept = Some (fault_at kind own [] (state_of mid)) } → UncutStep g old new (halted_answer new place)
   breaks_step new place kind own o bounded at kept =
       let line = (inner_buffer old.files.include_stack).line in
       let name = usage_name (held_of (inner_buffer old.files.include_stack)) len in
@@ -580,8 +581,8 @@ module _ {S R : Type 0} (g : Ghosts S R) (old mid : EngineView S R) (len : ℕ) 
       (called g false old.sources mid.sources o.call) (λ t s ws os macros. o.means (run_rules g old) s ws os (run_is s macros) t)))
 
   -- a read failed in its call
-  pub fails_step : (new : EngineView S R) (place : PieceLocation) → OpensUsage g len old mid Failed → IsBounded new → place ≡ Fault
-      → new ≡ record mid { kept = Some (fault_at fault.ReadFailed (reading_line_of (inner_buffer mid.files.include_stack)) [] (state_of mid)) } → UncutStep g old new (lent_answer new place)
+  pub fails_step : (new : EngineView S R) (place : Halt) → OpensUsage g len old mid Failed → IsBounded new → place ≡ Fault
+      → new ≡ record mid { kept = Some (fault_at fault.ReadFailed (reading_line_of (inner_buffer mid.files.include_stack)) [] (state_of mid)) } → UncutStep g old new (halted_answer new place)
   fails_step new place o bounded at kept =
       let line = reading_line_of (inner_buffer mid.files.include_stack) in
       let f = fault_at fault.ReadFailed line [] (state_of old) in

@@ -21,8 +21,8 @@ use Rattle.rdlpp_state.specs.Engine.{EngineView}
 use Rattle.rdlpp_state.specs.OpenConditionals.{inner_shown}
 use Rattle.rdlpp_state.specs.Pending.{line_ends_pending}
 use Rattle.rdlpp_state.specs.Remaining.{state_of}
-use Rattle.rdlpp_state.specs.declared.place.PieceLocation.{PieceLocation}
-use Rattle.rdlpp_state.specs.declared.place.PieceLocation.TheVariants.{Fault}
+use Rattle.rdlpp_state.specs.declared.place.Halt.{Halt}
+use Rattle.rdlpp_state.specs.declared.place.Halt.TheVariants.{Fault}
 
 -- the directive that opens a conditional, by whether it wants its name defined (IEEE 1364-2001, `ifdef`, `ifndef`)
 abbrev pub opening_word : Bool → Directive
@@ -59,12 +59,12 @@ unfoldable pub goes_past : {S R : Type 0} → ConditionsView → ℕ → EngineV
 goes_past v len e = record e { conditions = v; files = record e.files { include_stack = with_inner (consumed_file len 0) e.files.include_stack } }
 
 -- what an engine does by a test: its fault is kept, or so many bytes are used, with other conditionals open (this project's profile)
-abbrev pub DoesByTest : {S R : Type 0} → Test → (Bool → ConditionsView) → ℕ → EngineView S R → EngineView S R → Option PieceLocation → Type 0
+abbrev pub DoesByTest : {S R : Type 0} → Test → (Bool → ConditionsView) → ℕ → EngineView S R → EngineView S R → Option Halt → Type 0
 DoesByTest (TestFault kind word) next len old new result = (result ≡ Some Fault) × (new ≡ record old { kept = Some (fault_at kind (inner_buffer old.files.include_stack).line word (state_of old)) })
 DoesByTest (Holds live) next len old new result = (result ≡ None) × (new ≡ goes_past (next live) len old)
 
 -- what a conditional whose test was answered comes to: it is opened, at the line that its directive shows, or too many are open
 -- (this project's profile)
-abbrev pub OpensOne : {S R : Type 0} → Bool → ℕ → EngineView S R → EngineView S R → Option PieceLocation → Type 0
+abbrev pub OpensOne : {S R : Type 0} → Bool → ℕ → EngineView S R → EngineView S R → Option Halt → Type 0
 OpensOne holds len old new result =
     DoesByTest (opening_within (conditions_left old.conditions) (Holds holds)) (λ live. opened_with (inner_shown old.files.include_stack) live old.conditions) len old new result

@@ -23,8 +23,8 @@ use Rattle.rdlpp_state.specs.OpenConditionals.{inner_below}
 use Rattle.rdlpp_state.specs.Pending.{line_ends_pending, nothing_pending}
 use Rattle.rdlpp_state.specs.Remaining.{state_of}
 use Rattle.rdlpp_state.specs.Steps.{IsOwn}
-use Rattle.rdlpp_state.specs.declared.place.PieceLocation.{PieceLocation}
-use Rattle.rdlpp_state.specs.declared.place.PieceLocation.TheVariants.{Source, Text, Pending, End, Fault}
+use Rattle.rdlpp_state.specs.declared.place.Halt.{Halt}
+use Rattle.rdlpp_state.specs.declared.place.Halt.TheVariants.{End, Fault}
 use Rattle.rdlpp_state.specs.declared.phase.Phase.TheVariants.{Open, Closed}
 
 -- an engine whose main text is open, that keeps no fault and owes nothing
@@ -76,11 +76,8 @@ pub record Returns {S R : Type 0} (old new : EngineView S R) : Type 0 where
   pub becomes : new ≡ left_engine old
 
 -- what the end of the innermost source comes to
-abbrev pub Ends : {S R : Type 0} → EngineView S R → EngineView S R → Option PieceLocation → Type 0
+abbrev pub Ends : {S R : Type 0} → EngineView S R → EngineView S R → Option Halt → Type 0
 Ends old new None = Returns old new
-Ends old new (Some (Source start end)) = ⊥
-Ends old new (Some (Text place)) = ⊥
-Ends old new (Some (Pending len)) = ⊥
 Ends old new (Some End) = Closes old new
 Ends old new (Some Fault) = StopsOpen old new ⊎ StopsUnclosed old new
 
@@ -108,12 +105,9 @@ pub record RefusesDefine {S R : Type 0} (len : ℕ) (old new : EngineView S R) :
   pub becomes : new ≡ record old { kept = Some (fault_at (define_fault kind) (inner_buffer old.files.include_stack).line word (state_of old)) }
 
 -- what a `define` comes to whose logical line is held
-abbrev pub ReadsDefine : {S R : Type 0} → ℕ → EngineView S R → EngineView S R → Option PieceLocation → Type 0
+abbrev pub ReadsDefine : {S R : Type 0} → ℕ → EngineView S R → EngineView S R → Option Halt → Type 0
 ReadsDefine len old new None = Defines len old new
 ReadsDefine len old new (Some Fault) = RefusesDefine len old new
-ReadsDefine len old new (Some (Source start end)) = ⊥
-ReadsDefine len old new (Some (Text place)) = ⊥
-ReadsDefine len old new (Some (Pending n)) = ⊥
 ReadsDefine len old new (Some End) = ⊥
 
 -- the fault of the name that a directive is given is kept
@@ -125,7 +119,7 @@ pub record RefusesName {S R : Type 0} (given : Option (List ℕ)) (old new : Eng
   pub becomes : new ≡ record old { kept = Some (fault_at kind (inner_buffer old.files.include_stack).line word (state_of old)) }
 
 -- what a look at the name that a directive is given comes to: a name that it may have, or a fault that is kept
-abbrev pub LooksAtName : {S R : Type 0} → Option Argument → EngineView S R → EngineView S R → Result Argument PieceLocation → Type 0
+abbrev pub LooksAtName : {S R : Type 0} → Option Argument → EngineView S R → EngineView S R → Result Argument Halt → Type 0
 LooksAtName argument old new (Ok a) =
     let name = argument_name (held_of (inner_buffer old.files.include_stack)) a.start a.stop in
     (argument ≡ Some a) × (given_name (Some name) ≡ Fine name) × (new ≡ old)

@@ -11,6 +11,8 @@ use Rattle.rdlpp_state.specs.Engine.{EngineView}
 use Rattle.rdlpp_state.specs.Pending.{digits_of, part_bytes}
 use Rattle.rdlpp_state.specs.Remaining.{inner_name}
 use Rattle.rdlpp_state.specs.declared.pending.PendingPiece.{PendingPiece}
+use Rattle.rdlpp_state.specs.declared.place.Halt.{Halt}
+use Rattle.rdlpp_state.specs.declared.place.Halt.TheVariants as halt
 use Rattle.rdlpp_state.specs.declared.place.PieceLocation.{PieceLocation}
 use Rattle.rdlpp_state.specs.declared.place.PieceLocation.TheVariants.{Source, Text, Pending, End, Fault as AtFault}
 use Rattle.rdlpp_state.specs.declared.place.Piece.{Piece}
@@ -75,3 +77,21 @@ pub record Lends {S R : Type 0} (e : EngineView S R) (answer : Result (Option (L
 abbrev pub step_answer : {S R : Type 0} → EngineView S R → Option PieceLocation → Result (Option (List ℕ)) Report
 step_answer e None = Ok (Some [])
 step_answer e (Some place) = lent_answer e place
+
+-- where it stands that nothing more is lent
+abbrev pub location_at : Halt → PieceLocation
+location_at halt.End = End
+location_at halt.Fault = AtFault
+
+-- where a step has led that lends nothing: nowhere where it goes on
+abbrev pub location_of : Option Halt → Option PieceLocation
+location_of None = None
+location_of (Some halt) = Some (location_at halt)
+
+-- what is answered where nothing more is lent: the end, or the fault that is kept
+abbrev pub halted_answer : {S R : Type 0} → EngineView S R → Halt → Result (Option (List ℕ)) Report
+halted_answer e halt = lent_answer e (location_at halt)
+
+-- what is answered by a step that lends nothing: no bytes where it goes on
+abbrev pub silent_answer : {S R : Type 0} → EngineView S R → Option Halt → Result (Option (List ℕ)) Report
+silent_answer e halt = step_answer e (location_of halt)

@@ -15,6 +15,6 @@ pub use kinds::fault_kind;
 pub use new_fault::NewFault;
 pub use pending::{Pending, PendingPart, PendingPiece};
 pub use phase::Phase;
-pub use place::{Piece, PieceLocation};
+pub use place::{Halt, Piece, PieceLocation};
 pub use positions::{LineStep, Marks, Position};
 pub use texts::{copied, copied_fault};

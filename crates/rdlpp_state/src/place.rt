@@ -26,3 +26,12 @@ pub enum PieceLocation {
     /// In the fault that is kept.
     Fault,
 }
+
+/// Why an engine lends nothing more.
+#[derive(Clone, Copy)]
+pub enum Halt {
+    /// The output has ended.
+    End,
+    /// A fault is kept.
+    Fault,
+}

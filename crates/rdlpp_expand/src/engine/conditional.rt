@@ -10,7 +10,7 @@ ghost use Rattle.rdlpp_state.specs.Conditionals.{IsGivenBranch, OpensOne, goes_p
 ghost use Rattle.rdlpp_state.specs.Held.{IsBounded};
 ghost use Rattle.rdlpp_state.specs.Moves.{IsReady};
 ghost use Rattle.rdlpp_state.specs.OpenConditionals.{inner_below};
-ghost use Rattle.rdlpp_state.specs.Pieces.{IsPlaced, step_answer};
+ghost use Rattle.rdlpp_state.specs.Pieces.{silent_answer};
 ghost use Rattle.rdlpp_state.specs.Steps.{UncutStep};
 
 use super::Engine;
@@ -19,7 +19,7 @@ use rdlpp_meaning::FaultKind;
 use rdlpp_read::Branch;
 use rdlpp_scan::{Directive, Mode};
 use rdlpp_source::Sources;
-use rdlpp_state::PieceLocation;
+use rdlpp_state::Halt;
 
 impl<S: Sources> Engine<S> {
     // Opens a conditional in live text, whose first directive wants the name that it is given defined or
@@ -28,17 +28,16 @@ impl<S: Sources> Engine<S> {
         &mut self,
         defined: bool,
         argument: Option<Argument>,
-    ) -> Option<PieceLocation>
+    ) -> Option<Halt>
         requires ready { IsReady self.old }
         requires live { self.old.conditions.skipped ≡ None }
         requires some { 0 < length (held_of (inner_buffer self.old.files.include_stack)) }
         requires mode { (inner_buffer self.old.files.include_stack).mode ≡ Mode.Plain }
         requires opening { IsNamed (opening_word defined) (held_of (inner_buffer self.old.files.include_stack)) argument }
-        ensures place { IfSome result (IsPlaced self.new) }
-        ensures uncut_step { IsBounded self.new → UncutStep S.Sources self.old self.new (step_answer self.new result) }
+        ensures { IsBounded self.new → UncutStep S.Sources self.old self.new (silent_answer self.new result) }
     {
         match self.named(argument) {
-            Err(place) => Some(place),
+            Err(halt) => Some(halt),
             Ok(given) => {
                 let name = &self.files.file().buffer.held()[given.start..given.stop];
                 let found = self.table.find(name).is_some();
@@ -48,7 +47,7 @@ impl<S: Sources> Engine<S> {
     }
 
     // Opens a conditional in live text whose test holds or doesn't, and uses its directive of `len` bytes.
-    fn open_tested(&mut self, holds: bool, len: usize) -> Option<PieceLocation>
+    fn open_tested(&mut self, holds: bool, len: usize) -> Option<Halt>
         requires ready { IsReady self.old }
         requires live { self.old.conditions.skipped ≡ None }
         requires inside { len ≤ length (held_of (inner_buffer self.old.files.include_stack)) }
@@ -72,13 +71,12 @@ impl<S: Sources> Engine<S> {
         &mut self,
         word: Directive,
         argument: Option<Argument>,
-    ) -> Option<PieceLocation>
+    ) -> Option<Halt>
         requires ready { IsReady self.old }
         requires some { 0 < length (held_of (inner_buffer self.old.files.include_stack)) }
         requires mode { (inner_buffer self.old.files.include_stack).mode ≡ Mode.Plain }
         requires branch { IsGivenBranch word (held_of (inner_buffer self.old.files.include_stack)) argument }
-        ensures place { IfSome result (IsPlaced self.new) }
-        ensures uncut_step { IsBounded self.new → UncutStep S.Sources self.old self.new (step_answer self.new result) }
+        ensures { IsBounded self.new → UncutStep S.Sources self.old self.new (silent_answer self.new result) }
     {
         let below = self.files.file().conditions_below;
         match self.conditions.branch(below, word) {
@@ -96,17 +94,16 @@ impl<S: Sources> Engine<S> {
     }
 
     // Takes a branch of the innermost conditional, whose name decides.
-    fn turn_named(&mut self, word: Directive, argument: Option<Argument>) -> Option<PieceLocation>
+    fn turn_named(&mut self, word: Directive, argument: Option<Argument>) -> Option<Halt>
         requires ready { IsReady self.old }
         requires some { 0 < length (held_of (inner_buffer self.old.files.include_stack)) }
         requires mode { (inner_buffer self.old.files.include_stack).mode ≡ Mode.Plain }
         requires branch { IsGivenBranch word (held_of (inner_buffer self.old.files.include_stack)) argument }
         requires decides { IsBranch (place_of (inner_below self.old.files.include_stack) self.old.conditions) word Branch.Named }
-        ensures place { IfSome result (IsPlaced self.new) }
-        ensures uncut_step { IsBounded self.new → UncutStep S.Sources self.old self.new (step_answer self.new result) }
+        ensures { IsBounded self.new → UncutStep S.Sources self.old self.new (silent_answer self.new result) }
     {
         match self.named(argument) {
-            Err(place) => Some(place),
+            Err(halt) => Some(halt),
             Ok(given) => {
                 let name = &self.files.file().buffer.held()[given.start..given.stop];
                 let found = self.table.find(name).is_some();
@@ -129,13 +126,12 @@ impl<S: Sources> Engine<S> {
     }
 
     // Takes an `endif`, in live text or behind text that is skipped, and lends nothing; or refuses it.
-    pub(super) fn take_endif(&mut self) -> Option<PieceLocation>
+    pub(super) fn take_endif(&mut self) -> Option<Halt>
         requires ready { IsReady self.old }
         requires some { 0 < length (held_of (inner_buffer self.old.files.include_stack)) }
         requires mode { (inner_buffer self.old.files.include_stack).mode ≡ Mode.Plain }
         requires closing { IsDirective Endif (held_of (inner_buffer self.old.files.include_stack)) }
-        ensures place { IfSome result (IsPlaced self.new) }
-        ensures uncut_step { IsBounded self.new → UncutStep S.Sources self.old self.new (step_answer self.new result) }
+        ensures { IsBounded self.new → UncutStep S.Sources self.old self.new (silent_answer self.new result) }
     {
         let below = self.files.file().conditions_below;
         match self.conditions.close(below) {

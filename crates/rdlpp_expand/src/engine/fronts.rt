@@ -6,13 +6,13 @@ ghost use Rattle.rdlpp_read.specs.Files.{inner_buffer};
 ghost use Rattle.rdlpp_front.specs.SourceItems.{IsText};
 ghost use Rattle.rdlpp_state.specs.Held.{IsBounded};
 ghost use Rattle.rdlpp_state.specs.Moves.{IsReady, IsDrained};
-ghost use Rattle.rdlpp_state.specs.Pieces.{IsPlaced, lent_answer, step_answer};
+ghost use Rattle.rdlpp_state.specs.Pieces.{IsPlaced, lent_answer, location_of, step_answer};
 ghost use Rattle.rdlpp_state.specs.Steps.{IsStarted, UncutStep, UncutStepWithin};
 
 use crate::engine::Engine;
 use rdlpp_front::{Copied, copied_text};
 use rdlpp_source::Sources;
-use rdlpp_state::{Phase, PieceLocation};
+use rdlpp_state::{Halt, Phase, PieceLocation};
 
 impl<S: Sources> Engine<S> {
     // Takes what the held bytes begin with, or passes skipped text. Text that is copied, which is most of a source, is found and its
@@ -25,12 +25,12 @@ impl<S: Sources> Engine<S> {
         ensures uncut_step { IsBounded self.new → UncutStep S.Sources self.old self.new (step_answer self.new result) }
     {
         if !self.conditions.is_live() {
-            return self.skip_front();
+            return location_of(self.skip_front());
         }
         let buffer = &self.files.file().buffer;
         match copied_text(buffer.mode(), buffer.held()) {
             Some(copied) => Some(self.lend_copied(copied)),
-            None => self.take_front(),
+            None => location_of(self.take_front()),
         }
     }
 
@@ -51,5 +51,17 @@ impl<S: Sources> Engine<S> {
         let start = self.consume(len, lines);
         self.marks.lend_line(line);
         PieceLocation::Source(start, start + len)
+    }
+}
+
+// Where a step has led that lends nothing, as of other steps.
+#[inline(always)]
+pub(super) fn location_of(halt: Option<Halt>) -> Option<PieceLocation>
+    ensures { result ≡ location_of halt }
+{
+    match halt {
+        None => None,
+        Some(Halt::End) => Some(PieceLocation::End),
+        Some(Halt::Fault) => Some(PieceLocation::Fault),
     }
 }

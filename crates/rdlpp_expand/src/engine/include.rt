@@ -9,7 +9,7 @@ ghost use Rattle.rdlpp_state.specs.Includes.{SearchMade, included_engine, is_bad
 ghost use Rattle.rdlpp_state.specs.Moves.{IsReady};
 ghost use Rattle.rdlpp_state.specs.OpenConditionals.{inner_below};
 ghost use Rattle.rdlpp_state.specs.Pending.{nothing_pending};
-ghost use Rattle.rdlpp_state.specs.Pieces.{IsPlaced, step_answer};
+ghost use Rattle.rdlpp_state.specs.Pieces.{silent_answer};
 ghost use Rattle.rdlpp_state.specs.Steps.{UncutStep};
 
 use super::Engine;
@@ -18,19 +18,18 @@ use rdlpp_front::Argument;
 use rdlpp_meaning::FaultKind;
 use rdlpp_scan::Mode;
 use rdlpp_source::{Found, Sources};
-use rdlpp_state::{Phase, PieceLocation};
+use rdlpp_state::{Halt, Phase};
 
 impl<S: Sources> Engine<S> {
     // Takes an `include`, which is given a string or none, and lends nothing: opens the source that is found.
     #[inline(never)]
-    pub(super) fn take_include(&mut self, argument: Option<Argument>) -> Option<PieceLocation>
+    pub(super) fn take_include(&mut self, argument: Option<Argument>) -> Option<Halt>
         requires ready { IsReady self.old }
         requires live { self.old.conditions.skipped ≡ None }
         requires some { 0 < length (held_of (inner_buffer self.old.files.include_stack)) }
         requires mode { (inner_buffer self.old.files.include_stack).mode ≡ Mode.Plain }
         requires include { IsGivenString (held_of (inner_buffer self.old.files.include_stack)) argument }
-        ensures place { IfSome result (IsPlaced self.new) }
-        ensures uncut_step { IsBounded self.new → UncutStep S.Sources self.old self.new (step_answer self.new result) }
+        ensures { IsBounded self.new → UncutStep S.Sources self.old self.new (silent_answer self.new result) }
     {
         match argument {
             None => Some(self.record_fault(FaultKind::IncludeName)),

@@ -8,7 +8,7 @@ ghost use Rattle.rdlpp_state.specs.Held.{IsBounded};
 ghost use Rattle.rdlpp_state.specs.Lines.{Renumbers, renumbered_file};
 ghost use Rattle.rdlpp_state.specs.Moves.{IsReady};
 ghost use Rattle.rdlpp_state.specs.Pending.{nothing_pending};
-ghost use Rattle.rdlpp_state.specs.Pieces.{IsPlaced, step_answer};
+ghost use Rattle.rdlpp_state.specs.Pieces.{silent_answer};
 ghost use Rattle.rdlpp_state.specs.Steps.{UncutStep};
 
 use super::Engine;
@@ -17,19 +17,18 @@ use rdlpp_front::{GivenLine, given_line};
 use rdlpp_meaning::FaultKind;
 use rdlpp_scan::{Directive, Mode, line_ends_in};
 use rdlpp_source::Sources;
-use rdlpp_state::PieceLocation;
+use rdlpp_state::Halt;
 
 impl<S: Sources> Engine<S> {
     // Takes the `line` with which the held bytes begin, and lends nothing; or refuses it.
     #[inline(never)]
-    pub(super) fn take_line(&mut self) -> Option<PieceLocation>
+    pub(super) fn take_line(&mut self) -> Option<Halt>
         requires ready { IsReady self.old }
         requires live { self.old.conditions.skipped ≡ None }
         requires some { 0 < length (held_of (inner_buffer self.old.files.include_stack)) }
         requires mode { (inner_buffer self.old.files.include_stack).mode ≡ Mode.Plain }
         requires line { IsDirective Line (held_of (inner_buffer self.old.files.include_stack)) }
-        ensures place { IfSome result (IsPlaced self.new) }
-        ensures uncut_step { IsBounded self.new → UncutStep S.Sources self.old self.new (step_answer self.new result) }
+        ensures { IsBounded self.new → UncutStep S.Sources self.old self.new (silent_answer self.new result) }
     {
         let file = self.files.file();
         if !file.blanks {

@@ -9,7 +9,7 @@ ghost use Rattle.rdlpp_state.specs.Conditionals.{IsSkippedWord, opening_word, pa
 ghost use Rattle.rdlpp_state.specs.Held.{IsBounded};
 ghost use Rattle.rdlpp_state.specs.Moves.{IsReady};
 ghost use Rattle.rdlpp_state.specs.Pending.{nothing_pending};
-ghost use Rattle.rdlpp_state.specs.Pieces.{IsPlaced, step_answer};
+ghost use Rattle.rdlpp_state.specs.Pieces.{silent_answer};
 ghost use Rattle.rdlpp_state.specs.Steps.{UncutStep};
 
 use super::Engine;
@@ -18,16 +18,15 @@ use rdlpp_meaning::FaultKind;
 use rdlpp_read::LogicalLine;
 use rdlpp_scan::{Directive, Mode, line_ends_in, line_len};
 use rdlpp_source::Sources;
-use rdlpp_state::PieceLocation;
+use rdlpp_state::Halt;
 
 impl<S: Sources> Engine<S> {
     // Passes skipped text: a stretch of it in which nothing counts, or what counts in front.
-    pub(super) fn skip_front(&mut self) -> Option<PieceLocation>
+    pub(super) fn skip_front(&mut self) -> Option<Halt>
         requires ready { IsReady self.old }
         requires skipped { self.old.conditions.skipped ≢ None }
         requires some { 0 < length (held_of (inner_buffer self.old.files.include_stack)) }
-        ensures place { IfSome result (IsPlaced self.new) }
-        ensures uncut_step { IsBounded self.new → UncutStep S.Sources self.old self.new (step_answer self.new result) }
+        ensures { IsBounded self.new → UncutStep S.Sources self.old self.new (silent_answer self.new result) }
     {
         let buffer = &self.files.file().buffer;
         let stretch = skip_text(buffer.mode(), buffer.held());
@@ -41,12 +40,11 @@ impl<S: Sources> Engine<S> {
 
     // Passes what stands in front of skipped text: a word that counts there, or a string or a comment that
     // stays open.
-    fn skip_counted(&mut self) -> Option<PieceLocation>
+    fn skip_counted(&mut self) -> Option<Halt>
         requires ready { IsReady self.old }
         requires skipped { self.old.conditions.skipped ≢ None }
         requires some { 0 < length (held_of (inner_buffer self.old.files.include_stack)) }
-        ensures place { IfSome result (IsPlaced self.new) }
-        ensures uncut_step { IsBounded self.new → UncutStep S.Sources self.old self.new (step_answer self.new result) }
+        ensures { IsBounded self.new → UncutStep S.Sources self.old self.new (silent_answer self.new result) }
     {
         let buffer = &self.files.file().buffer;
         match next_item(buffer.mode(), buffer.held()) {
@@ -66,13 +64,12 @@ impl<S: Sources> Engine<S> {
     }
 
     // Passes `len` bytes of a text that is skipped, behind which it stands in a mode.
-    fn skip_part(&mut self, len: usize, next: Mode) -> Option<PieceLocation>
+    fn skip_part(&mut self, len: usize, next: Mode) -> Option<Halt>
         requires ready { IsReady self.old }
         requires skipped { self.old.conditions.skipped ≢ None }
         requires some { 0 < length (held_of (inner_buffer self.old.files.include_stack)) }
         requires text { IsText (inner_buffer self.old.files.include_stack).mode (held_of (inner_buffer self.old.files.include_stack)) len next }
-        ensures place { IfSome result (IsPlaced self.new) }
-        ensures uncut_step { IsBounded self.new → UncutStep S.Sources self.old self.new (step_answer self.new result) }
+        ensures { IsBounded self.new → UncutStep S.Sources self.old self.new (silent_answer self.new result) }
     {
         let lines = line_ends_in(&self.files.file().buffer.held()[..len]);
         self.enter_mode(next);
@@ -81,13 +78,12 @@ impl<S: Sources> Engine<S> {
     }
 
     // Refuses `<%` in skipped text; or passes a lone backquote, which doesn't count there.
-    fn skip_refused(&mut self, kind: FaultKind) -> Option<PieceLocation>
+    fn skip_refused(&mut self, kind: FaultKind) -> Option<Halt>
         requires ready { IsReady self.old }
         requires skipped { self.old.conditions.skipped ≢ None }
         requires some { 0 < length (held_of (inner_buffer self.old.files.include_stack)) }
         requires refused { IsRefused (inner_buffer self.old.files.include_stack).mode (held_of (inner_buffer self.old.files.include_stack)) kind }
-        ensures place { IfSome result (IsPlaced self.new) }
-        ensures uncut_step { IsBounded self.new → UncutStep S.Sources self.old self.new (step_answer self.new result) }
+        ensures { IsBounded self.new → UncutStep S.Sources self.old self.new (silent_answer self.new result) }
     {
         match kind {
             FaultKind::EmbeddedPerl => Some(self.record_fault(kind)),
@@ -96,28 +92,26 @@ impl<S: Sources> Engine<S> {
     }
 
     // Passes a word of `len` bytes that doesn't count in skipped text.
-    fn skip_word(&mut self, len: usize) -> Option<PieceLocation>
+    fn skip_word(&mut self, len: usize) -> Option<Halt>
         requires ready { IsReady self.old }
         requires skipped { self.old.conditions.skipped ≢ None }
         requires some { 0 < length (held_of (inner_buffer self.old.files.include_stack)) }
         requires mode { (inner_buffer self.old.files.include_stack).mode ≡ Mode.Plain }
         requires word { IsSkippedWord (held_of (inner_buffer self.old.files.include_stack)) len }
-        ensures place { IfSome result (IsPlaced self.new) }
-        ensures uncut_step { IsBounded self.new → UncutStep S.Sources self.old self.new (step_answer self.new result) }
+        ensures { IsBounded self.new → UncutStep S.Sources self.old self.new (silent_answer self.new result) }
     {
         self.pass(len, 0);
         None
     }
 
     // Counts a conditional that opens in skipped text, whose first directive wants its name defined or not.
-    fn skip_opening(&mut self, defined: bool) -> Option<PieceLocation>
+    fn skip_opening(&mut self, defined: bool) -> Option<Halt>
         requires ready { IsReady self.old }
         requires skipped { self.old.conditions.skipped ≢ None }
         requires some { 0 < length (held_of (inner_buffer self.old.files.include_stack)) }
         requires mode { (inner_buffer self.old.files.include_stack).mode ≡ Mode.Plain }
         requires opening { IsDirective (opening_word defined) (held_of (inner_buffer self.old.files.include_stack)) }
-        ensures place { IfSome result (IsPlaced self.new) }
-        ensures uncut_step { IsBounded self.new → UncutStep S.Sources self.old self.new (step_answer self.new result) }
+        ensures { IsBounded self.new → UncutStep S.Sources self.old self.new (silent_answer self.new result) }
     {
         self.consume(opening_len(defined), 0);
         self.conditions.open_skipped();
@@ -126,14 +120,13 @@ impl<S: Sources> Engine<S> {
 
     // Passes the logical line of a `define` in skipped text.
     #[inline(never)]
-    fn skip_define(&mut self) -> Option<PieceLocation>
+    fn skip_define(&mut self) -> Option<Halt>
         requires ready { IsReady self.old }
         requires skipped { self.old.conditions.skipped ≢ None }
         requires some { 0 < length (held_of (inner_buffer self.old.files.include_stack)) }
         requires mode { (inner_buffer self.old.files.include_stack).mode ≡ Mode.Plain }
         requires define { IsDirective Define (held_of (inner_buffer self.old.files.include_stack)) }
-        ensures place { IfSome result (IsPlaced self.new) }
-        ensures uncut_step { IsBounded self.new → UncutStep S.Sources self.old self.new (step_answer self.new result) }
+        ensures { IsBounded self.new → UncutStep S.Sources self.old self.new (silent_answer self.new result) }
     {
         match self.hold_line() {
             LogicalLine::Whole(len) => {
@@ -149,14 +142,13 @@ impl<S: Sources> Engine<S> {
     }
 
     // Passes the line of a `line` in skipped text.
-    fn skip_line(&mut self) -> Option<PieceLocation>
+    fn skip_line(&mut self) -> Option<Halt>
         requires ready { IsReady self.old }
         requires skipped { self.old.conditions.skipped ≢ None }
         requires some { 0 < length (held_of (inner_buffer self.old.files.include_stack)) }
         requires mode { (inner_buffer self.old.files.include_stack).mode ≡ Mode.Plain }
         requires line { IsDirective Line (held_of (inner_buffer self.old.files.include_stack)) }
-        ensures place { IfSome result (IsPlaced self.new) }
-        ensures uncut_step { IsBounded self.new → UncutStep S.Sources self.old self.new (step_answer self.new result) }
+        ensures { IsBounded self.new → UncutStep S.Sources self.old self.new (silent_answer self.new result) }
     {
         let held = self.files.file().buffer.held();
         let len = line_len(held);

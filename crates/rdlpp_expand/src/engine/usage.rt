@@ -10,7 +10,7 @@ ghost use Rattle.rdlpp_front.specs.SourceItems.{IsUsage, usage_name};
 ghost use Rattle.rdlpp_state.specs.Held.{IsBounded};
 ghost use Rattle.rdlpp_state.specs.Moves.{IsReady};
 ghost use Rattle.rdlpp_state.specs.Standing.{OpensUsage};
-ghost use Rattle.rdlpp_state.specs.Pieces.{IsPlaced, lent_answer, step_answer};
+ghost use Rattle.rdlpp_state.specs.Pieces.{halted_answer, silent_answer};
 ghost use Rattle.rdlpp_state.specs.Remaining.{state_of};
 ghost use Rattle.rdlpp_state.specs.Steps.{UncutStep};
 
@@ -19,26 +19,25 @@ use arrayvec::ArrayString;
 use rdlpp_meaning::FaultKind;
 use rdlpp_scan::Mode;
 use rdlpp_source::Sources;
-use rdlpp_state::PieceLocation;
+use rdlpp_state::Halt;
 use rdlpp_table::{MacroId, word_of};
 use rdlpp_usages::Opening;
 
 impl<S: Sources> Engine<S> {
     // Expands the usage of `len` bytes with which the held bytes begin.
-    pub(super) fn expand(&mut self, len: usize) -> Option<PieceLocation>
+    pub(super) fn expand(&mut self, len: usize) -> Option<Halt>
         requires ready { IsReady self.old }
         requires live { self.old.conditions.skipped ≡ None }
         requires some { 0 < length (held_of (inner_buffer self.old.files.include_stack)) }
         requires mode { (inner_buffer self.old.files.include_stack).mode ≡ Mode.Plain }
         requires usage { IsUsage (held_of (inner_buffer self.old.files.include_stack)) len }
-        ensures place { IfSome result (IsPlaced self.new) }
-        ensures uncut_step { IsBounded self.new → UncutStep S.Sources self.old self.new (step_answer self.new result) }
+        ensures { IsBounded self.new → UncutStep S.Sources self.old self.new (silent_answer self.new result) }
     {
         let name = name_of(self.files.file().buffer.held(), len);
         match self.table.find(name) {
             None => {
                 self.record_undefined(len);
-                Some(PieceLocation::Fault)
+                Some(Halt::Fault)
             }
             Some(id) => self.open_usage(len, id),
         }
@@ -83,7 +82,7 @@ impl<S: Sources> Engine<S> {
     }
 
     // Opens a usage of a macro, and lends nothing yet.
-    fn open_usage(&mut self, len: usize, id: MacroId) -> Option<PieceLocation>
+    fn open_usage(&mut self, len: usize, id: MacroId) -> Option<Halt>
         requires ready { IsReady self.old }
         requires live { self.old.conditions.skipped ≡ None }
         requires some { 0 < length (held_of (inner_buffer self.old.files.include_stack)) }
@@ -91,8 +90,7 @@ impl<S: Sources> Engine<S> {
         requires usage { IsUsage (held_of (inner_buffer self.old.files.include_stack)) len }
         requires inside { id < length self.old.table.macros }
         requires named { macro_named self.old.table.macros (usage_name (held_of (inner_buffer self.old.files.include_stack)) len) ≡ Some (macro_at self.old.table.macros id) }
-        ensures place { IfSome result (IsPlaced self.new) }
-        ensures uncut_step { IsBounded self.new → UncutStep S.Sources self.old self.new (step_answer self.new result) }
+        ensures { IsBounded self.new → UncutStep S.Sources self.old self.new (silent_answer self.new result) }
     {
         let line = self.files.file().buffer.line();
         self.facts();
@@ -100,11 +98,11 @@ impl<S: Sources> Engine<S> {
             Opening::Opened => None,
             Opening::Refused(kind) => {
                 self.record_refused(kind, line, id);
-                Some(PieceLocation::Fault)
+                Some(Halt::Fault)
             }
             Opening::Broken(kind, own) => {
                 self.record_broken(kind, own);
-                Some(PieceLocation::Fault)
+                Some(Halt::Fault)
             }
             Opening::Failed => Some(self.record_read_fault()),
         }

@@ -6,7 +6,7 @@ use Rattle.rdlpp_read.specs.Files.{inner_buffer}
 use Rattle.rdlpp_front.specs.SourceItems.{usage_name}
 use Rattle.rdlpp_front.proofs.Insides.{usage_inside}
 use Rattle.rdlpp_state.proofs.EngineSteps.{not_called}
-use Rattle.rdlpp_state.specs.declared.place.PieceLocation.TheVariants.{Fault}
+use Rattle.rdlpp_state.specs.declared.place.Halt.TheVariants.{Fault}
 use Rattle.rdlpp_state.proofs.FrontSteps.{left_undefined, read_nothing, refuses}
 use Rattle.rdlpp_expand.proofs.engine.Engine.expand.Goals as goal
 use Rattle.rdlpp_state.proofs.Stores.{own_kind}
@@ -19,8 +19,8 @@ name_of-name-requires-clause-inside g c =
     let held : c.held.result.now ≡ held_of (inner_buffer c.args.self.now.files.include_stack) = c.held.ensures.value ∙ ap held_of (c.file.ensures.buffer ∙ ap (λ e. inner_buffer e.files.include_stack) c.self.view_is) in
     rw held ((usage_inside _ _ c.requires.some c.requires.usage).1)
 
-pub returns-in-None-clause-uncut_step : goal.returns-in-None-clause-uncut_step
-returns-in-None-clause-uncut_step g c = λ bounded.
+pub returns-in-None : goal.returns-in-None
+returns-in-None g c = λ bounded.
     let e = c.args.self.now in
     let held : c.held.result.now ≡ held_of (inner_buffer e.files.include_stack) = c.held.ensures.value ∙ ap held_of (c.file.ensures.buffer ∙ ap (λ e. inner_buffer e.files.include_stack) c.self.view_is) in
     let name : c.name_of-name.result.now ≡ usage_name (held_of (inner_buffer e.files.include_stack)) c.args.len = c.name_of-name.ensures ∙ ap (λ h. usage_name h c.args.len) held in

@@ -12,12 +12,12 @@ use Rattle.rdlpp_expand.proofs.engine.Engine.open_conditional.Goals as goal
 pub named-requires-clause-given : goal.named-requires-clause-given
 named-requires-clause-given g c = (opening_word c.args.defined, c.requires.opening)
 
-pub returns-in-Err-clause-uncut_step : goal.returns-in-Err-clause-uncut_step
-returns-in-Err-clause-uncut_step g c = λ bounded.
-    opening_unnamed g.S.Sources c.args.self.now c.named.new.self c.requires.ready bounded c.requires.some c.requires.mode c.requires.live c.args.defined c.args.argument c.requires.opening c.in-Err.place c.in-Err.ensures
+pub returns-in-Err : goal.returns-in-Err
+returns-in-Err g c = λ bounded.
+    opening_unnamed g.S.Sources c.args.self.now c.named.new.self c.requires.ready bounded c.requires.some c.requires.mode c.requires.live c.args.defined c.args.argument c.requires.opening c.in-Err.halt c.in-Err.ensures
 
-pub returns-in-Ok-clause-uncut_step : goal.returns-in-Ok-clause-uncut_step
-returns-in-Ok-clause-uncut_step g c = λ bounded.
+pub returns-in-Ok : goal.returns-in-Ok
+returns-in-Ok g c = λ bounded.
     let e = c.args.self.now in
     let a = c.in-Ok.given in
     let looks : LooksAtName c.args.argument e c.named.new.self (Ok a) = c.in-Ok.ensures in

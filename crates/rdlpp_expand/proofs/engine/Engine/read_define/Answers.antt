@@ -16,13 +16,13 @@ pub queue_line_ends-requires : goal.queue_line_ends-requires
 unfolding nothing_pending
 queue_line_ends-requires g c = grind arith
 
-pub returns-in-Err-clause-reads : goal.returns-in-Err-clause-reads
+pub returns-in-Err : goal.returns-in-Err
 unfolding observed
-returns-in-Err-clause-reads g c = grind (arith, length-take-le, after_word, defined_same, reads_refused)
+returns-in-Err g c = grind (arith, length-take-le, after_word, defined_same, reads_refused)
 
-pub returns-in-Ok-clause-reads : goal.returns-in-Ok-clause-reads
+pub returns-in-Ok : goal.returns-in-Ok
 unfolding observed
-returns-in-Ok-clause-reads g c =
+returns-in-Ok g c =
     let e = c.args.self.now in
     let held : c.held.result.now ≡ held_of (inner_buffer e.files.include_stack) = c.held.ensures.value ∙ ap held_of (c.file-file.ensures.buffer ∙ ap (λ e. inner_buffer e.files.include_stack) c.self.view_is) in
     let inside : c.held.result.now ≡ held_of (inner_buffer c.self.inside.files.include_stack) = c.held.ensures.value ∙ ap held_of c.file-file.ensures.buffer in

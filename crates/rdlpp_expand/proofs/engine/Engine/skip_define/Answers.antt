@@ -26,8 +26,8 @@ pass-requires-clause-lines g c = grind (arith, length-take-le, line_ends_le)
 pub pass-requires-clause-nothing : goal.pass-requires-clause-nothing
 pass-requires-clause-nothing g c = ap (λ e. e.pending) c.in-Whole.ensures.becomes ∙ c.requires.ready.pending
 
-pub returns-in-Whole-clause-uncut_step : goal.returns-in-Whole-clause-uncut_step
-returns-in-Whole-clause-uncut_step g c = λ bounded.
+pub returns-in-Whole : goal.returns-in-Whole
+returns-in-Whole g c = λ bounded.
     let o = c.args.self.now in
     let e = c.in-Whole.ensures in
     let r : IsRead g.S.Sources o c.hold_line.new.self = record { becomes = e.becomes; only = e.only; moves = slid _ _ _ _ _ e.holds.slides } in
@@ -40,8 +40,8 @@ returns-in-Whole-clause-uncut_step g c = λ bounded.
     define_steps g.S.Sources o c.pass.new.self c.requires.ready bounded c.requires.some (skipping o c.requires.ready c.requires.skipped) c.requires.mode c.requires.define c.hold_line.new.self r
     c.in-Whole.len c.line_ends_in-lines.result e.holds (called g.S.Sources false _ _ e.call) (omega arith) has.0 (held_few c.hold_line.new.self c.facts.ensures.sound c.facts.ensures.files some) counted c.pass.ensures
 
-pub returns-in-TooLong-clause-uncut_step : goal.returns-in-TooLong-clause-uncut_step
-returns-in-TooLong-clause-uncut_step g c = λ bounded.
+pub returns-in-TooLong : goal.returns-in-TooLong
+returns-in-TooLong g c = λ bounded.
     let o = c.args.self.now in
     let e = c.in-TooLong.ensures in
     let r : IsRead g.S.Sources o c.hold_line.new.self = record { becomes = e.becomes; only = e.only; moves = slid _ _ _ _ _ e.holds.slides } in
@@ -49,8 +49,8 @@ returns-in-TooLong-clause-uncut_step g c = λ bounded.
     c.record_fault.ensures.kept (own_kind _ refl) (called g.S.Sources false _ _ e.call)
     (λ t. left_long g.S.Sources o c.record_fault.new.self c.requires.ready bounded c.requires.some (skipping o c.requires.ready c.requires.skipped) c.requires.mode c.requires.define c.hold_line.new.self r e.holds t)
 
-pub returns-in-SourceLong-clause-uncut_step : goal.returns-in-SourceLong-clause-uncut_step
-returns-in-SourceLong-clause-uncut_step g c = λ bounded.
+pub returns-in-SourceLong : goal.returns-in-SourceLong
+returns-in-SourceLong g c = λ bounded.
     let o = c.args.self.now in
     let e = c.in-SourceLong.ensures in
     let r : IsRead g.S.Sources o c.hold_line.new.self = record { becomes = e.becomes; only = e.only; moves = slid _ _ _ _ _ e.holds.slides } in
@@ -58,8 +58,8 @@ returns-in-SourceLong-clause-uncut_step g c = λ bounded.
     c.record_fault-in-SourceLong.ensures.kept (own_kind _ refl) (called g.S.Sources false _ _ e.call)
     (λ t. left_cut g.S.Sources o c.record_fault-in-SourceLong.new.self c.requires.ready bounded c.requires.some (skipping o c.requires.ready c.requires.skipped) c.requires.mode c.requires.define c.hold_line.new.self r e.holds t)
 
-pub returns-in-Failed-clause-uncut_step : goal.returns-in-Failed-clause-uncut_step
-returns-in-Failed-clause-uncut_step g c = λ bounded.
+pub returns-in-Failed : goal.returns-in-Failed
+returns-in-Failed g c = λ bounded.
     let o = c.args.self.now in
     let e = c.in-Failed.ensures in
     let r : IsRead g.S.Sources o c.hold_line.new.self = record { becomes = e.becomes; only = e.only; moves = slid _ _ _ _ _ e.holds.slides } in

@@ -14,8 +14,8 @@ pass-requires-clause-inside g c = grind (arith, entered_holds)
 pub pass-requires-clause-lines : goal.pass-requires-clause-lines
 pass-requires-clause-lines g c = grind (arith, length-take-le, line_ends_le)
 
-pub returns-clause-uncut_step : goal.returns-clause-uncut_step
-returns-clause-uncut_step g c = λ bounded.
+pub returns : goal.returns
+returns g c = λ bounded.
     let e = c.args.self.now in
     let h = held_of (inner_buffer e.files.include_stack) in
     let same = c.file.ensures.buffer ∙ ap (λ e. inner_buffer e.files.include_stack) c.self.view_is in

@@ -12,8 +12,8 @@ pass-requires-clause-inside g c = grind arith
 pub pass-requires-clause-lines : goal.pass-requires-clause-lines
 pass-requires-clause-lines g c = grind (arith, length-take-le, line_ends_le)
 
-pub returns-clause-uncut_step : goal.returns-clause-uncut_step
-returns-clause-uncut_step g c = λ bounded.
+pub returns : goal.returns
+returns g c = λ bounded.
     let e = c.args.self.now in
     let held : c.held-held.result.now ≡ held_of (inner_buffer c.args.self.now.files.include_stack) = c.held-held.ensures.value ∙ ap held_of (c.file.ensures.buffer ∙ ap (λ e. inner_buffer e.files.include_stack) c.self.view_is) in
     let whole : c.line_len-len.result ≡ line_len (held_of (inner_buffer e.files.include_stack)) = c.line_len-len.ensures.value ∙ ap line_len held in

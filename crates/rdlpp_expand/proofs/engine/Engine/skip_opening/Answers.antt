@@ -27,9 +27,9 @@ invariant_of-self g c =
     whole_with _ _ _ _ c.self.inside.conditions _ _ c.self.invariant
     (rw counts (opening_conditions e _ c.opening_len.result c.requires.ready s (omega (arith, within.0)) inside (c.self.view_is ∙ c.consume.ensures.used) c.self.invariant.sources.conditions_of))
 
-pub returns-clause-uncut_step : goal.returns-clause-uncut_step
+pub returns : goal.returns
 unfolding goes_past
-returns-clause-uncut_step g c = λ bounded.
+returns g c = λ bounded.
     let e = c.args.self.now in
     let s = skipping e c.requires.ready c.requires.skipped in
     let skips : c.self.inside.conditions.skipped ≡ Some s.count = ap (λ e. e.conditions.skipped) (c.self.view_is ∙ c.consume.ensures.used) ∙ s.skips in

@@ -27,8 +27,8 @@ pass-requires-clause-lines g c =
     let count = c.line_ends_in-lines.ensures in
     omega arith
 
-pub returns-clause-uncut_step : goal.returns-clause-uncut_step
-returns-clause-uncut_step g c = λ bounded.
+pub returns : goal.returns
+returns g c = λ bounded.
     let e = c.args.self.now in
     let held : c.held.result.now ≡ held_of (inner_buffer c.args.self.now.files.include_stack) = c.held.ensures.value ∙ ap held_of (c.file.ensures.buffer ∙ ap (λ e. inner_buffer e.files.include_stack) c.self.view_is) in
     let counted : c.line_ends_in-lines.result ≡ line_ends (take c.args.len (held_of (inner_buffer e.files.include_stack))) = c.line_ends_in-lines.ensures ∙ ap (λ h. line_ends (take c.args.len h)) held in

@@ -6,8 +6,8 @@ use Rattle.rdlpp_state.proofs.DirectiveSteps.{bare_is, left_perl, perl_is, skipp
 use Rattle.rdlpp_expand.proofs.engine.Engine.skip_refused.Goals as goal
 use Rattle.rdlpp_state.proofs.Stores.{own_kind}
 
-pub returns-in-EmbeddedPerl-clause-uncut_step : goal.returns-in-EmbeddedPerl-clause-uncut_step
-returns-in-EmbeddedPerl-clause-uncut_step g c = λ bounded.
+pub returns-in-EmbeddedPerl : goal.returns-in-EmbeddedPerl
+returns-in-EmbeddedPerl g c = λ bounded.
     let e = c.args.self.now in
     refuses g.S.Sources e e c.record_fault.new.self c.record_fault.result fault.EmbeddedPerl _ [] c.requires.ready (read_nothing e) bounded c.record_fault.ensures.place
     (rw c.in-EmbeddedPerl.is at c.record_fault.ensures.kept) (own_kind _ refl) (not_called g.S.Sources e.sources)

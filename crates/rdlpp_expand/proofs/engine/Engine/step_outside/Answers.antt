@@ -1,5 +1,6 @@
-use Rattle.std.proofs.Common.{◌≡◌, None, length, sym, ap, subst, ◌∙◌, arith}
+use Rattle.std.proofs.Common.{◌≡◌, None, length, sym, ap, subst, ◌∙◌, arith, refl}
 use Rattle.rdlpp_state.specs.declared.phase.Phase.TheVariants.{Closed, Open, OverLimit}
+use Rattle.rdlpp_state.specs.declared.place.Halt.TheVariants as halt
 use Rattle.rdlpp_state.specs.Held.{IsBounded}
 use Rattle.rdlpp_state.specs.Remaining.{output_fault}
 use Rattle.rdlpp_expand.proofs.RunFacts.{bounded_kept}
@@ -23,9 +24,9 @@ returns-in-OverLimit-clause-uncut_step g c =
     let e = c.args.self.now in
     let free : e.kept ≡ None = none_kept_by e.kept c.self.inside.kept (sym (ap (λ e. e.kept) c.self.view_is)) (sym c.is_some.ensures ∙ c.if-is_some.false) in
     let past : e.phase ≡ OverLimit = sym (ap (λ e. e.phase) c.self.view_is) ∙ c.in-OverLimit.is in
-    let becomes = c.record_output_fault.ensures.kept in
+    let becomes = c.record_output_fault.ensures in
     let bounded : IsBounded c.record_output_fault.new.self = subst (λ e. IsBounded e) (sym becomes) (bounded_kept e _ c.facts.ensures.bounded) in
-    wider g.S.Sources 0 1 _ _ _ (omega arith) (kept_at g.S.Sources e c.record_output_fault.new.self c.record_output_fault.result (output_fault e.main) c.record_output_fault.ensures.place (ap (λ e. e.kept) becomes)
+    wider g.S.Sources 0 1 _ _ _ (omega arith) (kept_at g.S.Sources e c.record_output_fault.new.self halt.Fault (output_fault e.main) refl (ap (λ e. e.kept) becomes)
     (steps_passed g.S.Sources e c.record_output_fault.new.self free past bounded becomes))
 
 pub take_pending-requires : goal.take_pending-requires

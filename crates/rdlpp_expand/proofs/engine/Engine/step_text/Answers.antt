@@ -1,6 +1,6 @@
 use Rattle.std.proofs.Common.{ap, refl, subst, ◌∙◌, arith, is_some}
 use Rattle.rdlpp_usages.specs.Usages.{StaysLent, StaysOpen, TakesUsageStep}
-use Rattle.rdlpp_state.specs.declared.place.PieceLocation.TheVariants as place
+use Rattle.rdlpp_state.specs.declared.place.Halt.TheVariants as halt
 use Rattle.rdlpp_expand.proofs.TextFacts.{lent-texts, drained-texts}
 use Rattle.rdlpp_state.proofs.LentPieces.{marked_usage}
 use Rattle.rdlpp_state.proofs.UsageSteps.{HoldsTexts, fault_text, lend_step, opening, placed_lent, placed_word, refuse_step, turn_step}
@@ -30,7 +30,7 @@ pub returns-in-Refused-clause-uncut_step : goal.returns-in-Refused-clause-uncut_
 returns-in-Refused-clause-uncut_step g c = λ bounded.
     let x = c.step-step.new.self in
     let takes = subst (λ v. TakesUsageStep v.table.macros v.expansion c.step-step.result x) c.self.view_is c.step-step.ensures in
-    refuse_step g.S.Sources c.args.self.now x c.step-step.result c.requires.0 takes _ c.record_text_fault-kept.new.self place.Fault c.in-Refused.fault c.in-Refused.is
+    refuse_step g.S.Sources c.args.self.now x c.step-step.result c.requires.0 takes _ c.record_text_fault-kept.new.self halt.Fault c.in-Refused.fault c.in-Refused.is
     (opening _ c.args.self.now x c.self.view_is) bounded refl c.record_text_fault-kept.ensures.kept (fault_text c.step-step.result c.in-Refused.fault c.in-Refused.is takes.fault)
 
 pub returns-in-Lends-clause-stays : goal.returns-in-Lends-clause-stays

@@ -14,17 +14,17 @@ consume-requires-clause-inside g c = omega (arith, c.branch_len.ensures, (branch
 pub turn-requires-clause-inside : goal.turn-requires-clause-inside
 turn-requires-clause-inside g c = omega (arith, c.branch_len-in_Decided-self.ensures, (branch_within c.args.word _ c.args.argument c.requires.branch c.requires.some).1)
 
-pub returns-in_Inner-self-clause-uncut_step : goal.returns-in_Inner-self-clause-uncut_step
+pub returns-in_Inner-self : goal.returns-in_Inner-self
 unfolding goes_past
-returns-in_Inner-self-clause-uncut_step g c = λ bounded.
+returns-in_Inner-self g c = λ bounded.
     let e = c.args.self.now in
     let below : c.file.result.now.conditions_below ≡ inner_below e.files.include_stack = sym (ap inner_below c.file.ensures.inner) ∙ ap (λ e. inner_below e.files.include_stack) c.self.view_is in
     let is : IsBranch (place_of c.file.result.now.conditions_below e.conditions) c.args.word (Inner) = rw (← c.self.view_is) c.in_Inner-self.ensures in
     inner_steps g.S.Sources e c.consume.new.self c.requires.ready bounded c.requires.some c.requires.mode c.args.word c.args.argument c.requires.branch
     (meets_here c.args.word Inner e c.requires.ready c.file.result.now.conditions_below below is) (rw c.branch_len.ensures at c.consume.ensures.used)
 
-pub returns-in_Refused-self-clause-uncut_step : goal.returns-in_Refused-self-clause-uncut_step
-returns-in_Refused-self-clause-uncut_step g c = λ bounded.
+pub returns-in_Refused-self : goal.returns-in_Refused-self
+returns-in_Refused-self g c = λ bounded.
     let e = c.args.self.now in
     let below : c.file.result.now.conditions_below ≡ inner_below e.files.include_stack = sym (ap inner_below c.file.ensures.inner) ∙ ap (λ e. inner_below e.files.include_stack) c.self.view_is in
     let is : IsBranch (place_of c.file.result.now.conditions_below e.conditions) c.args.word (Refused c.in_Refused-self.kind) = rw (← c.self.view_is) c.in_Refused-self.ensures in
@@ -39,8 +39,8 @@ turn-requires-clause-own g c =
     own_open c.args.word (Decided c.in_Decided-self.holds) _ _
     (own_here c.args.word (Decided c.in_Decided-self.holds) e c.requires.ready c.file.result.now.conditions_below below is (λ e. cc) (λ e. cc))
 
-pub returns-in_Decided-self-clause-uncut_step : goal.returns-in_Decided-self-clause-uncut_step
-returns-in_Decided-self-clause-uncut_step g c = λ bounded.
+pub returns-in_Decided-self : goal.returns-in_Decided-self
+returns-in_Decided-self g c = λ bounded.
     let e = c.args.self.now in
     let below : c.file.result.now.conditions_below ≡ inner_below e.files.include_stack = sym (ap inner_below c.file.ensures.inner) ∙ ap (λ e. inner_below e.files.include_stack) c.self.view_is in
     let is : IsBranch (place_of c.file.result.now.conditions_below e.conditions) c.args.word (Decided c.in_Decided-self.holds) = rw (← c.self.view_is) c.in_Decided-self.ensures in

@@ -16,8 +16,8 @@ use Rattle.rdlpp_expand.proofs.engine.Engine.take_endif.Goals as goal
 pub close-requires : goal.close-requires
 close-requires g c = grind (arith, inner_most)
 
-pub returns-in-Err-clause-uncut_step : goal.returns-in-Err-clause-uncut_step
-returns-in-Err-clause-uncut_step g c = λ bounded.
+pub returns-in-Err : goal.returns-in-Err
+returns-in-Err g c = λ bounded.
     let e = c.args.self.now in
     let below : c.file.result.now.conditions_below ≡ inner_below c.args.self.now.files.include_stack = sym (ap inner_below c.file.ensures.inner) ∙ ap (λ e. inner_below e.files.include_stack) c.self.view_is in
     let kept : c.record_fault.new.self ≡ record (record e { conditions = c.close.new.self }) { kept = Some (fault_at c.in-Err.kind (inner_buffer e.files.include_stack).line [] (state_of (record e { conditions = c.close.new.self }))) } =
@@ -42,9 +42,9 @@ pub consume-requires-clause-inside : goal.consume-requires-clause-inside
 consume-requires-clause-inside g c =
     rw (c.word_len.ensures) (rw (← c.self.view_is) at (word_within Endif (held_of (inner_buffer c.args.self.now.files.include_stack)) c.requires.closing c.requires.some).1)
 
-pub returns-in-Ok-clause-uncut_step : goal.returns-in-Ok-clause-uncut_step
+pub returns-in-Ok : goal.returns-in-Ok
 unfolding goes_past
-returns-in-Ok-clause-uncut_step g c = λ bounded.
+returns-in-Ok g c = λ bounded.
     let e = c.args.self.now in
     let below : c.file.result.now.conditions_below ≡ inner_below c.args.self.now.files.include_stack = sym (ap inner_below c.file.ensures.inner) ∙ ap (λ e. inner_below e.files.include_stack) c.self.view_is in
     end_closes g.S.Sources e c.consume.new.self c.requires.ready bounded c.requires.some c.requires.mode _ c.in-Ok.field-0 c.close.new.self

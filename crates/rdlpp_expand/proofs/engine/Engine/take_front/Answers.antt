@@ -6,8 +6,8 @@ use Rattle.rdlpp_state.proofs.EngineSteps.{not_called}
 use Rattle.rdlpp_state.proofs.FrontSteps.{left_refused, read_nothing, refused_kind, refuses}
 use Rattle.rdlpp_expand.proofs.engine.Engine.take_front.Goals as goal
 
-pub returns-in-Refused-clause-uncut_step : goal.returns-in-Refused-clause-uncut_step
-returns-in-Refused-clause-uncut_step g c = λ bounded.
+pub returns-in-Refused : goal.returns-in-Refused
+returns-in-Refused g c = λ bounded.
     let e = c.args.self.now in
     let same = c.file.ensures.buffer ∙ ap (λ e. inner_buffer e.files.include_stack) c.self.view_is in
     let held : c.held.result.now ≡ held_of (inner_buffer e.files.include_stack) = c.held.ensures.value ∙ ap held_of same in

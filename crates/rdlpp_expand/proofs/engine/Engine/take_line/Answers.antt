@@ -14,16 +14,16 @@ use Rattle.rdlpp_state.proofs.LineSteps.{held_short, left_bad_line, left_late_li
 use Rattle.rdlpp_expand.proofs.engine.Engine.take_line.Goals as goal
 use Rattle.rdlpp_state.proofs.Stores.{own_kind}
 
-pub returns-then-not-file-clause-uncut_step : goal.returns-then-not-file-clause-uncut_step
-returns-then-not-file-clause-uncut_step g c = λ bounded.
+pub returns-then-not-file : goal.returns-then-not-file
+returns-then-not-file g c = λ bounded.
     let e = c.args.self.now in
     let late : inner_blanks e.files.include_stack ≡ false = ap inner_blanks (ap (λ e. e.files.include_stack) (sym c.self.view_is) ∙ c.file-file.ensures.inner) ∙ c.if-not-file.true in
     refuses g.S.Sources e e c.record_fault.new.self c.record_fault.result fault.BadLine _ [] c.requires.ready (read_nothing e) bounded c.record_fault.ensures.place c.record_fault.ensures.kept
     (own_kind _ refl) (not_called g.S.Sources e.sources)
     (λ t. left_late_line g.S.Sources e c.requires.ready c.requires.live c.requires.some c.requires.mode c.requires.line late)
 
-pub returns-in-None-clause-uncut_step : goal.returns-in-None-clause-uncut_step
-returns-in-None-clause-uncut_step g c = λ bounded.
+pub returns-in-None : goal.returns-in-None
+returns-in-None g c = λ bounded.
     let e = c.args.self.now in
     let held : c.held.result.now ≡ held_of (inner_buffer e.files.include_stack) = c.held.ensures.value ∙ ap held_of (c.file-file.ensures.buffer ∙ ap (λ e. inner_buffer e.files.include_stack) c.self.view_is) in
     let word : c.word_len.result ≡ 5 = c.word_len.ensures in
@@ -38,8 +38,8 @@ renumber-requires-clause-inside g c = grind (arith, word_held)
 pub renumber-requires-clause-few : goal.renumber-requires-clause-few
 renumber-requires-clause-few g c = grind (arith, word_held, held_short)
 
-pub returns-in-Some-clause-uncut_step : goal.returns-in-Some-clause-uncut_step
-returns-in-Some-clause-uncut_step g c = λ bounded.
+pub returns-in-Some : goal.returns-in-Some
+returns-in-Some g c = λ bounded.
     let e = c.args.self.now in
     let h = held_of (inner_buffer e.files.include_stack) in
     let held : c.held.result.now ≡ h = c.held.ensures.value ∙ ap held_of (c.file-file.ensures.buffer ∙ ap (λ e. inner_buffer e.files.include_stack) c.self.view_is) in

@@ -18,11 +18,11 @@ named-requires-clause-given g c =
     let own = own_here c.args.word Named c.args.self.now c.requires.ready _ refl c.requires.decides (λ e. cc) (λ e. cc) in
     (c.args.word, given_named c.args.word _ c.args.argument c.requires.branch own.turns.0)
 
-pub returns-in-Err-clause-uncut_step : goal.returns-in-Err-clause-uncut_step
-returns-in-Err-clause-uncut_step g c = λ bounded.
+pub returns-in-Err : goal.returns-in-Err
+returns-in-Err g c = λ bounded.
     let e = c.args.self.now in
     turn_unnamed g.S.Sources e c.named.new.self c.requires.ready bounded c.requires.some c.requires.mode c.args.word c.args.argument c.requires.branch
-    (own_here c.args.word Named e c.requires.ready _ refl c.requires.decides (λ e. cc) (λ e. cc)) c.in-Err.place c.in-Err.ensures
+    (own_here c.args.word Named e c.requires.ready _ refl c.requires.decides (λ e. cc) (λ e. cc)) c.in-Err.halt c.in-Err.ensures
 
 pub turn-requires : goal.turn-requires
 turn-requires g c =
@@ -36,8 +36,8 @@ turn-requires g c =
       inside = (begins_within c.args.word h _ _ (given_begins c.args.word h (Some c.in-Ok.given) branch) c.requires.some).1;
     })
 
-pub returns-in-Ok-clause-uncut_step : goal.returns-in-Ok-clause-uncut_step
-returns-in-Ok-clause-uncut_step g c = λ bounded.
+pub returns-in-Ok : goal.returns-in-Ok
+returns-in-Ok g c = λ bounded.
     let e = c.args.self.now in
     let a = c.in-Ok.given in
     let looks : LooksAtName c.args.argument e c.named.new.self (Ok a) = c.in-Ok.ensures in
