@@ -156,7 +156,7 @@ failed_rest g mid new f s met reads t = search (arith, alike, left_open, met_fre
 end_drained : {S R : Type 0} (g : Ghosts S R) (mid new : EngineView S R) (p : Phase) → mid.phase ≡ p → is_open p ≡ true → mid.kept ≡ None → Step g mid new (Ok None) → new.pending ≡ nothing_pending
 unfolding is_open
 end_drained g mid new Fresh phase open_ free s = cc open_
-end_drained g mid new Open phase open_ free s = s.halts free phase
+end_drained g mid new Open phase open_ free s = s.ends_or_faults free phase
 end_drained g mid new OverLimit phase open_ free s = absurd (let no : Ok None ≡ Err (output_fault mid.main) = (s.passed free phase).0 in cc)
 end_drained g mid new Closed phase open_ free s = cc open_
 

@@ -23,8 +23,9 @@ use Rattle.rdlpp_state.specs.Positions.{position_of}
 use Rattle.rdlpp_state.specs.Silences.{most_silent}
 use Rattle.rdlpp_state.specs.Steps.{Step, UncutStepWithin}
 use Rattle.rdlpp_state.specs.declared.phase.Phase.TheVariants.{Open}
+use Rattle.rdlpp_state.specs.declared.place.Halt.TheVariants as halt
 use Rattle.rdlpp_state.specs.declared.place.PieceLocation.{PieceLocation}
-use Rattle.rdlpp_state.proofs.LentPieces.{IsSpent, cut_kept, cut_piece, position_first}
+use Rattle.rdlpp_state.proofs.LentPieces.{IsSpent, cut_halt, cut_piece, position_first}
 use Rattle.rdlpp_state.proofs.EngineSteps.{follows}
 use Rattle.rdlpp_expand.specs.Texts.{IsInTexts, LeavesTexts, StaysDrained, further_parts, place_of}
 use Rattle.rdlpp_expand.specs.declared.engine.texts.TextStep.{TextStep}
@@ -78,7 +79,7 @@ pub other-steps : {S R : Type 0} (g : Ghosts S R) (old new : EngineView S R) (st
     → UncutStepWithin g most_silent old new (step_answer new (place_of step)) → Step g old new (step_answer new (place_of step))
 other-steps g old new (Lent place) other w = absurd (other place refl)
 other-steps g old new Silent other w = silent-steps g old new w
-other-steps g old new AtFault other w = cut_kept g old new new.kept w
+other-steps g old new AtFault other w = cut_halt g old new halt.Fault w
 
 -- what holds behind one step that lends a piece or keeps a fault holds behind the steps up to it
 pub other-leaves : {S R : Type 0} (step : TextStep) (e : EngineView S R) → (step ≡ Silent → ⊥) → StaysDrained step e → LeavesTexts step e

@@ -4,6 +4,7 @@ use Rattle.std.specs.Prelude.{◌≡◌, ℕ, ◌<◌, Bool, true, false, length
 use Rattle.rdlpp_state.specs.Engine.{EngineView}
 use Rattle.rdlpp_state.specs.Moves.{IsDrained}
 use Rattle.rdlpp_state.specs.declared.phase.Phase.TheVariants.{Open}
+use Rattle.rdlpp_state.specs.declared.place.Halt.TheVariants as halt
 use Rattle.rdlpp_state.specs.declared.place.PieceLocation.{PieceLocation}
 use Rattle.rdlpp_state.specs.declared.place.PieceLocation.TheVariants as spot
 use Rattle.rdlpp_expand.specs.declared.engine.texts.TextStep.{TextStep}
@@ -13,7 +14,7 @@ use Rattle.rdlpp_expand.specs.declared.engine.texts.TextStep.TheVariants.{Lent, 
 abbrev pub place_of : TextStep → Option PieceLocation
 place_of (Lent place) = Some (spot.Text place)
 place_of Silent = None
-place_of Fault = Some spot.Fault
+place_of Fault = Some (spot.Halt halt.Fault)
 
 -- an engine whose next step is one over open texts: its main text is open, it keeps no fault and owes nothing, and a text of a
 -- usage is open

@@ -1,5 +1,5 @@
 // The engine: it reads sources by lines, expands usages, and lends its output piece by piece.
-ghost use Rattle.std.specs.Prelude.{◌≡◌, ◌↔◌, ℕ, ◌+◌, ◌-◌, ◌^◌, ◌≤◌, ◌<◌, true, false, [], List, length, take, drop, None, Some, Ok, IfSome, IsTrue, not};
+ghost use Rattle.std.specs.Prelude.{◌≡◌, ◌↔◌, ℕ, ◌+◌, ◌-◌, ◌^◌, ◌≤◌, ◌<◌, true, false, [], List, length, take, drop, Option, None, Some, Result, Ok, IfSome, IfOk, IfErr, IsTrue, not};
 ghost use Rattle.std.specs.Borrow.{sem};
 ghost use Rattle.std.specs.Option.{option_map};
 ghost use Rattle.std.specs.Io.BufRead.{Rests};
@@ -23,7 +23,7 @@ ghost use Rattle.rdlpp_state.specs.Held.{HoldsDefinitions, IsBounded, bound_of, 
 ghost use Rattle.rdlpp_state.specs.Moves.{Ends, IsReady, IsDrained, LooksAtName, ReadsDefine};
 ghost use Rattle.rdlpp_state.specs.OpenConditionals.{inner_below};
 ghost use Rattle.rdlpp_state.specs.Pending.{nothing_pending};
-ghost use Rattle.rdlpp_state.specs.Pieces.{IsPlaced, Lends, answer_of, held_texts, lent_answer, silent_answer, step_answer};
+ghost use Rattle.rdlpp_state.specs.Pieces.{IsPlaced, Lends, answer_of, halted_answer, held_texts, lent_answer, silent_answer, step_answer};
 ghost use Rattle.rdlpp_state.specs.Stored.{LetsGo};
 ghost use Rattle.rdlpp_state.specs.Remaining.{output_fault, state_of};
 ghost use Rattle.rdlpp_expand.specs.Run.{write_fault};
@@ -223,8 +223,7 @@ impl<S: Sources> Engine<S> {
                 let len = self.charge_quota(piece.len);
                 PieceLocation::Pending(piece.cut(len))
             }
-            PieceLocation::End => PieceLocation::End,
-            PieceLocation::Fault => PieceLocation::Fault,
+            PieceLocation::Halt(halt) => PieceLocation::Halt(halt),
         }
     }
 
@@ -290,47 +289,65 @@ impl<S: Sources> Engine<S> {
     {
         self.facts();
         if self.kept.is_some() {
-            return Some(PieceLocation::Fault);
+            return Some(PieceLocation::Halt(Halt::Fault));
         }
-        match self.phase {
-            Phase::Open => {}
-            Phase::OverLimit => {
-                self.record_output_fault();
-                return Some(PieceLocation::Fault);
-            }
-            _ => return Some(PieceLocation::End),
+        if !self.is_open() {
+            let halt = self.stop();
+            self.facts();
+            return Some(PieceLocation::Halt(halt));
         }
         if let Some(piece) = self.take_pending() {
             self.facts();
             return Some(PieceLocation::Pending(piece));
         }
         if self.files.file().buffer.held().is_empty() {
-            let place = self.step_filled();
-            self.facts();
-            return place;
+            if let Err(halt) = self.hold_bytes() {
+                self.facts();
+                return location_of(halt);
+            }
         }
         let place = self.take_held();
         self.facts();
         place
     }
 
-    // Sees to it that bytes of the innermost source are held, and takes one step over them; or ends that source, or refuses what breaks
-    // it. It stands apart, so that a step over what is held or pending has no more of it than the test.
+    // Why nothing more is lent of an engine that isn't open and keeps no fault: the output has ended, or more bytes are due than it may
+    // have, which is a fault.
+    #[cold]
+    fn stop(&mut self) -> Halt
+        requires started { IsStarted self.old }
+        requires free { self.old.kept ≡ None }
+        requires stopped { self.old.phase ≡ Phase.Open → ⊥ }
+        ensures { IsBounded self.new → UncutStep S.Sources self.old self.new (halted_answer self.new result) }
+    {
+        match self.phase {
+            Phase::OverLimit => {
+                self.record_output_fault();
+                Halt::Fault
+            }
+            _ => Halt::End,
+        }
+    }
+
+    // Sees to it that bytes of the innermost source are held. An error is where that led in their place: the source has ended, or what
+    // breaks it was refused. It stands apart, so that a step over what is held or pending has no more of it than the test.
     #[inline(never)]
-    fn step_filled(&mut self) -> Option<PieceLocation>
+    fn hold_bytes(&mut self) -> Result<(), Option<Halt>>
         requires { IsReady self.old }
-        ensures place { IfSome result (IsPlaced self.new) }
-        ensures uncut_step { IsBounded self.new → UncutStepWithin S.Sources 1 self.old self.new (step_answer self.new result) }
+        ensures ready { IfOk result (λ held. IsReady self.new) }
+        ensures some { IfOk result (λ held. 0 < length (held_of (inner_buffer self.new.files.include_stack))) }
+        ensures silent { IfOk result (λ held. (new : EngineView S S.Reader) → (answer : Result (Option (List ℕ)) Report) → UncutStep S.Sources self.new new answer → UncutStepWithin S.Sources 1 self.old new answer) }
+        ensures uncut_step { IfErr result (λ halt. IsBounded self.new → UncutStepWithin S.Sources 1 self.old self.new (silent_answer self.new halt)) }
     {
         match self.files.fill(&mut self.sources) {
             Fill::Held => {
                 self.facts();
-                self.take_held()
+                Ok(())
             }
-            Fill::End => location_of(self.end()),
-            Fill::SourceLong => location_of(Some(self.record_fault(FaultKind::SourceTooLong))),
-            Fill::LineLong => location_of(Some(self.record_fault(FaultKind::LineTooLong))),
-            Fill::Failed => location_of(Some(self.record_read_fault())),
+            Fill::End => Err(self.end()),
+            Fill::SourceLong => Err(Some(self.record_fault(FaultKind::SourceTooLong))),
+            Fill::LineLong => Err(Some(self.record_fault(FaultKind::LineTooLong))),
+            Fill::Failed => Err(Some(self.record_read_fault())),
         }
     }
 
@@ -561,7 +578,7 @@ impl<S: Sources> Engine<S> {
     #[inline(never)]
     fn record_fault(&mut self, kind: FaultKind) -> Halt
         requires { 0 < length self.old.files.include_stack }
-        ensures place { result ≡ Halt.Fault }
+        ensures halt { result ≡ Halt.Fault }
         ensures kept { self.new ≡ record self.old { kept = Some (fault_at kind (inner_buffer self.old.files.include_stack).line [] (state_of self.old)) } }
     {
         self.record_word_fault(kind, ArrayString::new())
@@ -570,7 +587,7 @@ impl<S: Sources> Engine<S> {
     // Keeps a fault with its word, at the line of the next byte.
     fn record_word_fault(&mut self, kind: FaultKind, word: ArrayString<128>) -> Halt
         requires { 0 < length self.old.files.include_stack }
-        ensures place { result ≡ Halt.Fault }
+        ensures halt { result ≡ Halt.Fault }
         ensures kept { self.new ≡ record self.old { kept = Some (fault_at kind (inner_buffer self.old.files.include_stack).line word.bytes (state_of self.old)) } }
     {
         let line = self.files.file().buffer.line();
@@ -584,7 +601,7 @@ impl<S: Sources> Engine<S> {
         requires line { self.old.expansion.line < 2 ^ 63 }
         requires placed { IsTextPlaced (held_texts self.old) fault.word }
         requires word { IsWordBytes (place_bytes (held_texts self.old) fault.word) }
-        ensures place { result ≡ Halt.Fault }
+        ensures halt { result ≡ Halt.Fault }
         ensures kept { self.new ≡ record self.old { kept = Some (fault_at fault.kind self.old.expansion.line (place_bytes (held_texts self.old) fault.word) (state_of self.old)) } }
     {
         let word = word_of(self.text(fault.word));
@@ -595,7 +612,7 @@ impl<S: Sources> Engine<S> {
     // Keeps that a read failed, at the line that is read.
     fn record_read_fault(&mut self) -> Halt
         requires { 0 < length self.old.files.include_stack }
-        ensures place { result ≡ Halt.Fault }
+        ensures halt { result ≡ Halt.Fault }
         ensures kept { self.new ≡ record self.old { kept = Some (fault_at FaultKind.ReadFailed (reading_line_of (inner_buffer self.old.files.include_stack)) [] (state_of self.old)) } }
     {
         let line = self.files.file().buffer.reading_line();
@@ -607,7 +624,7 @@ impl<S: Sources> Engine<S> {
     fn record_fault_at(&mut self, kind: FaultKind, line: u64, word: ArrayString<128>) -> Halt
         requires open { 0 < length self.old.files.include_stack }
         requires line { line < 2 ^ 63 }
-        ensures place { result ≡ Halt.Fault }
+        ensures halt { result ≡ Halt.Fault }
         ensures kept { self.new ≡ record self.old { kept = Some (fault_at kind line word.bytes (state_of self.old)) } }
     {
         self.files.facts();
@@ -625,7 +642,7 @@ impl<S: Sources> Engine<S> {
     // Keeps that a conditional is open where its source ends, at the line that the conditional showed.
     fn record_unclosed_fault(&mut self, line: u64) -> Halt
         requires { 0 < length self.old.files.include_stack }
-        ensures place { result ≡ Halt.Fault }
+        ensures halt { result ≡ Halt.Fault }
         ensures kept { self.new ≡ record self.old { kept = Some (unclosed_fault line (state_of self.old)) } }
     {
         self.kept = Some(Fault {
@@ -699,8 +716,8 @@ impl<S: Sources> Engine<S> {
                 let name = self.files.file().name.as_str();
                 Ok(Piece::Bytes(self.pending.bytes(piece, name)))
             }
-            PieceLocation::End => Ok(Piece::Done),
-            PieceLocation::Fault => match &self.kept {
+            PieceLocation::Halt(Halt::End) => Ok(Piece::Done),
+            PieceLocation::Halt(Halt::Fault) => match &self.kept {
                 Some(fault) => Err(fault),
                 None => Ok(Piece::Done),
             },

@@ -12,7 +12,7 @@ ghost use Rattle.rdlpp_expand.specs.Reading.{Fills, FillsPart, GivesPiece, Leave
 use crate::engine::{Engine, READ_ALLOWANCE};
 use rdlpp_meaning::Fault;
 use rdlpp_source::Sources;
-use rdlpp_state::{Held, Phase, Piece, PieceLocation};
+use rdlpp_state::{Halt, Held, Phase, Piece, PieceLocation};
 use rdlpp_table::DefineFault;
 use std::marker::Model;
 
@@ -63,7 +63,7 @@ impl<S: Sources> Reading<S> {
     {
         Reading {
             engine,
-            place: PieceLocation::End,
+            place: PieceLocation::Halt(Halt::End),
             given: 0,
         }
     }
@@ -115,7 +115,7 @@ impl<S: Sources> Reading<S> {
         ensures rest { self.new.rest ≡ (if is_failed_start self.old.engine then [] else self.old.rest) }
     {
         if self.engine.keeps_failed_start() {
-            self.place = PieceLocation::End;
+            self.place = PieceLocation::Halt(Halt::End);
             self.given = 0;
         }
         self.engine.start_again(path)
@@ -129,7 +129,7 @@ impl<S: Sources> Reading<S> {
         ensures reading { self.new ≡ unstarted (fresh_engine self.old.engine.limits sources origins) }
         ensures sources { result ≡ self.old.engine.sources }
     {
-        self.place = PieceLocation::End;
+        self.place = PieceLocation::Halt(Halt::End);
         self.given = 0;
         let before = self.engine.renew(sources, origins);
         self.engine.end_unstarted();
@@ -148,7 +148,7 @@ impl<S: Sources> Reading<S> {
         ensures refused { OnErr result (self.new.engine ≡ self.old.engine) }
         ensures only { self.new ≡ record { engine = record self.old.engine { table = record self.old.engine.table { macros = self.new.engine.table.macros } }; rest = [] } }
     {
-        self.place = PieceLocation::End;
+        self.place = PieceLocation::Halt(Halt::End);
         self.given = 0;
         self.engine.await_start();
         let outcome = self.engine.define(name, text);
@@ -167,7 +167,7 @@ impl<S: Sources> Reading<S> {
         ensures engine { Starts S.Sources (record self.old.engine { phase = Phase.Fresh }) self.new.engine path.now (start_fault result) }
         ensures rest { self.new.rest ≡ [] }
     {
-        self.place = PieceLocation::End;
+        self.place = PieceLocation::Halt(Halt::End);
         self.given = 0;
         self.engine.await_start();
         self.engine.start(path)

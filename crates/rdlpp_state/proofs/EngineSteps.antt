@@ -21,7 +21,7 @@ use Rattle.rdlpp_state.specs.Pending.{nothing_pending}
 use Rattle.rdlpp_state.specs.Pieces.{halted_answer, kept_answer}
 use Rattle.rdlpp_state.specs.Positions.{position_of}
 use Rattle.rdlpp_state.specs.Remaining.{uncut_of, kept_uncut, output_fault, phase_uncut, state_of, text_of, work_left}
-use Rattle.rdlpp_state.specs.Steps.{EndsText, FailsAt, OnRead, Halts, HaltsAt, IsReading, AtFront, Itself, LendsText, StopsReading, StepSpec, TellsText, UncutStep, UncutStepWithin, all_of, may_follow, no_len, Tells, IsOwn, IsStarted, has_failed, has_met, has_refused, is_call_failed, is_memory_kind, is_read_failed, is_write_failed}
+use Rattle.rdlpp_state.specs.Steps.{EndsText, FailsAt, OnRead, EndsOrFaults, FaultsWhere, IsReading, AtFront, Itself, LendsText, StopsReading, StepSpec, TellsText, UncutStep, UncutStepWithin, all_of, may_follow, no_len, Tells, IsOwn, IsStarted, has_failed, has_met, has_refused, is_call_failed, is_memory_kind, is_read_failed, is_write_failed}
 use Rattle.rdlpp_state.specs.declared.phase.Phase.{Phase}
 use Rattle.rdlpp_state.specs.declared.phase.Phase.TheVariants.{Fresh, Open, OverLimit, Closed}
 use Rattle.rdlpp_state.specs.declared.place.Halt.{Halt}
@@ -112,7 +112,7 @@ module _ {S R : Type 0} (g : Ghosts S R) (old new : EngineView S R) (free : old.
         answers = λ _ t. left_open g old free open_ ∙ (ap outcome (text t) ∙ (outcome-after_bytes bytes (text_of g new) ∙ rw (left_open g new none still) refl));
         text = λ _ _ _ t. record { piece = bytes; lent = refl; text = text t };
         reads = λ met. absurd (let no : false ≡ true = rw free at met in cc);
-        halts = λ _ _. tt;
+        ends_or_faults = λ _ _. tt;
         falls = λ _ _. falls;
         lends = λ _ _. (open_, ap may_follow still);
         quota = omega (arith, ap (λ e. e.quota) becomes);
@@ -126,7 +126,7 @@ module _ {S R : Type 0} (g : Ghosts S R) (old new : EngineView S R) (free : old.
 
   -- what a fault leaves, where nothing is pending
   halts_at : (f : Report) → new ≡ record old { kept = Some f; files = new.files; sources = new.sources }
-      → new.files ≡ record old.files { include_stack = with_buffer (inner_buffer new.files.include_stack) old.files.include_stack } → Slides (g.has_known_texts old.sources) ⊥ g.unread (inner_buffer old.files.include_stack) (inner_buffer new.files.include_stack) → old.pending ≡ nothing_pending → HaltsAt g 0 old new
+      → new.files ≡ record old.files { include_stack = with_buffer (inner_buffer new.files.include_stack) old.files.include_stack } → Slides (g.has_known_texts old.sources) ⊥ g.unread (inner_buffer old.files.include_stack) (inner_buffer new.files.include_stack) → old.pending ≡ nothing_pending → FaultsWhere g 0 old new
   halts_at f becomes only moves drained =
       let keeps : Option Report → EngineView S R = λ k. record old { kept = k; files = new.files; sources = new.sources } in
       record {
@@ -149,11 +149,11 @@ module _ {S R : Type 0} (g : Ghosts S R) (old new : EngineView S R) (free : old.
       becomes ∙ ap (λ x. record old { kept = Some f; files = new.files; sources = new.sources; expansion = x }) (sym (ap (λ e. e.expansion) becomes))
 
   -- the text has a fault, which is kept, wherever that came
-  pub walks_kept : (f : Report) → IsOwn f.kind → new ≡ record old { kept = Some f; files = new.files; sources = new.sources; expansion = new.expansion } → HaltsAt g 0 old new
+  pub walks_kept : (f : Report) → IsOwn f.kind → new ≡ record old { kept = Some f; files = new.files; sources = new.sources; expansion = new.expansion } → FaultsWhere g 0 old new
       → SourcesCalled g false false old.sources new.sources
       → (g.has_known_texts old.sources → text_of g old ≡ leaves (fails f) (state_of new)) → KeepsStores g old new → UncutStep g old new (Err f)
   unfolding has_met no_len is_call_failed
-  walks_kept f own becomes halts call text stores = grind (arith, left_open, outcome-leaves)
+  walks_kept f own becomes ends_or_faults call text stores = grind (arith, left_open, outcome-leaves)
 
   -- a fault at the front of what is held
   pub walks_fault : (f : Report) → IsOwn f.kind → new ≡ record old { kept = Some f; files = new.files; sources = new.sources }
@@ -166,10 +166,10 @@ module _ {S R : Type 0} (g : Ghosts S R) (old new : EngineView S R) (free : old.
 
   -- a read or a search failed, wherever that was
   pub walks_ceased : (f : Report) → FailsAt new f → is_call_failed f.kind ≡ true → is_write_failed f.kind ≡ false
-      → new ≡ record old { kept = Some f; files = new.files; sources = new.sources; expansion = new.expansion } → HaltsAt g 0 old new → StopsReading g old new
+      → new ≡ record old { kept = Some f; files = new.files; sources = new.sources; expansion = new.expansion } → FaultsWhere g 0 old new → StopsReading g old new
       → SourcesCalled g (is_read_failed f.kind) (is_memory_kind f.kind) old.sources new.sources → KeepsStores g old new → UncutStep g old new (Err f)
   unfolding has_met no_len
-  walks_ceased f fails met write becomes halts reads call stores = grind arith
+  walks_ceased f fails met write becomes ends_or_faults reads call stores = grind arith
 
   -- at the front of what is held
   pub walks_stopped : (f : Report) → FailsAt new f → is_call_failed f.kind ≡ true → is_write_failed f.kind ≡ false
@@ -263,17 +263,17 @@ unfolding all_of after_bytes
 silent_text quota old new lends = lends.text ∙ ap (λ (x : List ℕ). after_bytes x new) (sym lends.lent)
 
 -- what an answer leaves, behind such a part
-halts_after : {S R : Type 0} (g : Ghosts S R) (n m : ℕ) (answer : Result (Option (List ℕ)) Report) (old mid new : EngineView S R) → IsSilent g n old mid → Halts g m answer mid new → Halts g (n + m) answer old new
-halts_after g n m (Ok (Some bytes)) old mid new first halts = tt
-halts_after g n m (Ok None) old mid new first halts = halts
-halts_after g n m (Err f) old mid new first halts = record {
-  at = halts.at;
-  reached = reaches_on g old mid halts.at first.reaches halts.reached;
-  few = parts_both _ _ _ n m (length-append first.reaches.between halts.reached.between) first.few halts.few;
-  idle = λ h none. halts.idle (first.keeps.lets_go h) none;
-  text = λ t. first.text t ∙ halts.text (first.call.has_known_texts t);
-  drained = halts.drained;
-  stopped = halts.stopped;
+ends_or_faults_after : {S R : Type 0} (g : Ghosts S R) (n m : ℕ) (answer : Result (Option (List ℕ)) Report) (old mid new : EngineView S R) → IsSilent g n old mid → EndsOrFaults g m answer mid new → EndsOrFaults g (n + m) answer old new
+ends_or_faults_after g n m (Ok (Some bytes)) old mid new first ends_or_faults = tt
+ends_or_faults_after g n m (Ok None) old mid new first ends_or_faults = ends_or_faults
+ends_or_faults_after g n m (Err f) old mid new first ends_or_faults = record {
+  at = ends_or_faults.at;
+  reached = reaches_on g old mid ends_or_faults.at first.reaches ends_or_faults.reached;
+  few = parts_both _ _ _ n m (length-append first.reaches.between ends_or_faults.reached.between) first.few ends_or_faults.few;
+  idle = λ h none. ends_or_faults.idle (first.keeps.lets_go h) none;
+  text = λ t. first.text t ∙ ends_or_faults.text (first.call.has_known_texts t);
+  drained = ends_or_faults.drained;
+  stopped = ends_or_faults.stopped;
 }
 
 -- where bytes that are lent stand, behind such a part
@@ -313,7 +313,7 @@ silent_then g n m old mid new answer first then_ =
       reads = λ met.
           let reads = then_.reads (sym (same is_call_failed) ∙ met) in
           record { open_ = first.open_; still = reads.still; at = reads.at; stood = reads.stood; text = λ t. first.text t ∙ reads.text (first.call.has_known_texts t) };
-      halts = λ _ _. halts_after g n m answer old mid new first (then_.halts first.still first.stays);
+      ends_or_faults = λ _ _. ends_or_faults_after g n m answer old mid new first (then_.ends_or_faults first.still first.stays);
       falls = λ bytes is. (let less = then_.falls bytes is in let most = first.work in omega arith);
       lends = λ bytes is. (first.open_, (then_.lends bytes is).1);
       quota = (let one = first.quota in let two = then_.quota in omega arith);
@@ -363,11 +363,11 @@ silent_step g m old mid w =
     }
 
 -- a fault that came behind fewer parts
-halts_wider : {S R : Type 0} (g : Ghosts S R) (n m : ℕ) (answer : Result (Option (List ℕ)) Report) (old new : EngineView S R) → n ≤ m → Halts g n answer old new → Halts g m answer old new
-halts_wider g n m (Ok (Some bytes)) old new more halts = tt
-halts_wider g n m (Ok None) old new more halts = halts
-halts_wider g n m (Err f) old new more halts =
-    record { at = halts.at; reached = halts.reached; few = parts_wider _ n m halts.few more; idle = halts.idle; text = halts.text; drained = halts.drained; stopped = halts.stopped }
+ends_or_faults_wider : {S R : Type 0} (g : Ghosts S R) (n m : ℕ) (answer : Result (Option (List ℕ)) Report) (old new : EngineView S R) → n ≤ m → EndsOrFaults g n answer old new → EndsOrFaults g m answer old new
+ends_or_faults_wider g n m (Ok (Some bytes)) old new more ends_or_faults = tt
+ends_or_faults_wider g n m (Ok None) old new more ends_or_faults = ends_or_faults
+ends_or_faults_wider g n m (Err f) old new more ends_or_faults =
+    record { at = ends_or_faults.at; reached = ends_or_faults.reached; few = parts_wider _ n m ends_or_faults.few more; idle = ends_or_faults.idle; text = ends_or_faults.text; drained = ends_or_faults.drained; stopped = ends_or_faults.stopped }
 
 -- what more parts may be is no more than so many
 pub wider : {S R : Type 0} (g : Ghosts S R) (n m : ℕ) (old new : EngineView S R) (answer : Result (Option (List ℕ)) Report) → n ≤ m
@@ -389,7 +389,7 @@ wider g n m old new answer more w = record {
   answers = w.answers;
   text = w.text;
   reads = w.reads;
-  halts = λ free open_. halts_wider g n m answer old new more (w.halts free open_);
+  ends_or_faults = λ free open_. ends_or_faults_wider g n m answer old new more (w.ends_or_faults free open_);
   falls = w.falls;
   lends = w.lends;
   quota = w.quota;
@@ -478,7 +478,7 @@ steps_passed {S} {R} g old new free past bounded becomes =
       answers = λ _ t. rw (free, past) refl;
       text = λ none open_. absurd (let no : OverLimit ≡ Open = sym past ∙ open_ in cc);
       reads = λ met. absurd (let no : false ≡ true = rw free at met in cc);
-      halts = λ none open_. absurd (let no : OverLimit ≡ Open = sym past ∙ open_ in cc);
+      ends_or_faults = λ none open_. absurd (let no : OverLimit ≡ Open = sym past ∙ open_ in cc);
       falls = λ bytes e. absurd (cc);
       lends = λ bytes e. absurd (cc);
       quota = omega (arith, ap (λ e. e.quota) becomes);

@@ -46,7 +46,7 @@ use Rattle.rdlpp_state.specs.Moves.{Defines, IsReady, IsDrained, ReadsDefine, Re
 use Rattle.rdlpp_state.specs.Marks.{MarksView, lends_line, lends_pending}
 use Rattle.rdlpp_state.specs.Pending.{PendingView, TakesPiece, digits_of, line_ends_pending, nothing_pending, origin_bytes, origin_pieces, pending_bytes, pending_pieces, part_bytes}
 use Rattle.rdlpp_state.specs.declared.pending.PendingPiece.{PendingPiece}
-use Rattle.rdlpp_state.specs.Pieces.{IsPlaced, halted_answer, lent_answer, location_of, silent_answer}
+use Rattle.rdlpp_state.specs.Pieces.{IsPlaced, halted_answer, lent_answer, silent_answer}
 use Rattle.rdlpp_state.specs.Positions.{Unmarked, position_of}
 use Rattle.rdlpp_state.specs.Remaining.{file_state, inner_name, include_stack_left, include_stack_state, run_rules, source_rules, state_of, text_of, work_left}
 use Rattle.rdlpp_state.specs.Steps.{IsOwn, IsReading, UncutStep, is_memory_kind, is_read_failed, is_write_failed}
@@ -381,12 +381,6 @@ module _ {S R : Type 0} (g : Ghosts S R) (old mid new : EngineView S R) (len : �
   defined_steps None wide inside few reads = accepted_steps wide inside few reads
   defined_steps (Some Fault) wide inside few reads = refused_steps Fault refl reads
   defined_steps _ wide inside few reads = absurd reads
-
--- where it stands that nothing is lent lies in what is held
-pub halt_placed : {S R : Type 0} (e : EngineView S R) (halt : Option Halt) → IfSome (location_of halt) (IsPlaced e)
-halt_placed e None = tt
-halt_placed e (Some End) = tt
-halt_placed e (Some Fault) = tt
 
 -- bytes in front of bytes
 pub after_twice : (x y : List ℕ) (p : Passage) → after_bytes (x ++ y) p ≡ after_bytes x (after_bytes y p)

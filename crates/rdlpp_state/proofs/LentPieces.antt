@@ -27,7 +27,7 @@ use Rattle.rdlpp_state.specs.Engine.{EngineView, is_open}
 use Rattle.rdlpp_state.specs.Held.{IsBounded, stores_of}
 use Rattle.rdlpp_state.specs.Marks.{MarksView, PlaceView, lends_line, lends_line_end, lends_origin, lends_pending, lends_usage, marked_place}
 use Rattle.rdlpp_state.specs.Pending.{OriginView, PendingView, TakesPiece, after_piece, cut_to, digits_of, first_piece, line_from, nothing_pending, origin_bytes, origin_pending, origin_pieces, pending_bytes, pending_number, pending_pieces, part_bytes, pieces_from}
-use Rattle.rdlpp_state.specs.Pieces.{IsPlaced, held_texts, kept_answer, lent_answer, pending_part}
+use Rattle.rdlpp_state.specs.Pieces.{IsPlaced, halted_answer, held_texts, kept_answer, lent_answer, pending_part}
 use Rattle.rdlpp_state.specs.Positions.{TakesPending, line_end_place, origin_place, pending_place, place_at, position_of, source_place, usage_place}
 use Rattle.rdlpp_state.specs.Remaining.{file_state, inner_name, kept_uncut, left_of, include_stack_state, output_fault, phase_uncut, source_rules, state_of, text_of, uncut_of, work_left}
 use Rattle.rdlpp_state.specs.Silences.{most_silent}
@@ -39,6 +39,8 @@ use Rattle.rdlpp_state.specs.declared.pending.PendingPart.TheVariants.{Digits, L
 use Rattle.rdlpp_state.specs.declared.pending.PendingPiece.{PendingPiece}
 use Rattle.rdlpp_state.specs.declared.phase.Phase.{Phase}
 use Rattle.rdlpp_state.specs.declared.phase.Phase.TheVariants.{Fresh, Open, OverLimit}
+use Rattle.rdlpp_state.specs.declared.place.Halt.{Halt}
+use Rattle.rdlpp_state.specs.declared.place.Halt.TheVariants.{End, Fault}
 use Rattle.rdlpp_state.specs.declared.place.PieceLocation.TheVariants.{Pending, Source, Text}
 use Rattle.rdlpp_state.specs.declared.positions.Lent.TheVariants.{Ending, Line, Origin}
 use Rattle.rdlpp_state.specs.declared.positions.LineStep.TheVariants.{Next}
@@ -316,7 +318,7 @@ tells_end over quota o is = ap (limited over quota) is ∙ limited-within over q
 
 -- a step that ends the output, or tells its fault
 module _ {S R : Type 0} (g : Ghosts S R) (old new : EngineView S R) where
-  pub cut_end : UncutStepWithin g most_silent old new (Ok None) → Step g old new (Ok None)
+  cut_end : UncutStepWithin g most_silent old new (Ok None) → Step g old new (Ok None)
   unfolding left_of no_len lent_len
   cut_end w = record {
     limits = w.limits;
@@ -335,7 +337,7 @@ module _ {S R : Type 0} (g : Ghosts S R) (old new : EngineView S R) where
     answers = λ own t. (let told = w.answers own t in (tells_end _ _ _ told.0, tells_end _ _ _ told.1));
     text = w.text;
     reads = w.reads;
-    halts = w.halts;
+    ends_or_faults = w.ends_or_faults;
     falls = w.falls;
     lends = λ bytes e. absurd (cc);
     quota = w.quota;
@@ -366,7 +368,7 @@ module _ {S R : Type 0} (g : Ghosts S R) (old new : EngineView S R) where
     answers = λ own t. ap (limited (output_fault old.main) old.quota) (w.answers own t) ∙ limited-fails (output_fault old.main) old.quota f;
     text = w.text;
     reads = w.reads;
-    halts = w.halts;
+    ends_or_faults = w.ends_or_faults;
     falls = w.falls;
     lends = λ bytes e. absurd (cc);
     quota = w.quota;
@@ -453,7 +455,7 @@ module _ {S R : Type 0} (g : Ghosts S R) (old mid new : EngineView S R) (xs : Li
               text = piece.text ∙ ap (after_bytes piece.piece) (sym (ap (text_of g) becomes ∙ same_text g mid new.phase new.quota));
             };
         reads = λ met. absurd (let no : false ≡ true = rw free_old at met in cc);
-        halts = λ _ _. tt;
+        ends_or_faults = λ _ _. tt;
         falls = λ bytes e. (let less = w.falls xs refl in let same : work_left new ≡ work_left mid = ap work_left becomes ∙ same_work mid new.phase new.quota in omega arith);
         lends = λ bytes e. ((w.lends xs refl).0, opens);
         quota = quota;
@@ -582,9 +584,14 @@ pub text_cut_placed : {S R : Type 0} (mid new : EngineView S R) (place : TextPla
 text_cut_placed {S} {R} mid new place len placed spent = grind (arith, spent_part, texts_same)
 
 -- the fault that is kept, or the end where none is
-pub cut_kept : {S R : Type 0} (g : Ghosts S R) (old new : EngineView S R) (kept : Option Report) → UncutStepWithin g most_silent old new (kept_answer kept) → Step g old new (kept_answer kept)
+cut_kept : {S R : Type 0} (g : Ghosts S R) (old new : EngineView S R) (kept : Option Report) → UncutStepWithin g most_silent old new (kept_answer kept) → Step g old new (kept_answer kept)
 cut_kept g old new None w = cut_end g old new w
 cut_kept g old new (Some f) w = cut_fault g old new f w
+
+-- where nothing more is lent, nothing is cut
+pub cut_halt : {S R : Type 0} (g : Ghosts S R) (old new : EngineView S R) (halt : Halt) → UncutStepWithin g most_silent old new (halted_answer new halt) → Step g old new (halted_answer new halt)
+cut_halt g old new End w = cut_end g old new w
+cut_halt g old new Fault w = cut_kept g old new new.kept w
 
 -- the part is the same where only what may be lent and how far the engine is changed
 part_same : {S R : Type 0} (mid new : EngineView S R) (piece : PendingPiece) (n len k : ℕ) → IsPart mid new n len → pending_part new (cut_to piece k) ≡ pending_part mid piece

@@ -45,7 +45,7 @@ use Rattle.rdlpp_state.specs.Pending.{nothing_pending, pending_bytes, pending_pi
 use Rattle.rdlpp_state.specs.Pieces.{halted_answer, held_texts, lent_answer}
 use Rattle.rdlpp_state.specs.Remaining.{file_state, inner_name, include_stack_left, include_stack_state, run_rules, source_rules, state_of, text_of, work_left}
 use Rattle.rdlpp_state.specs.Standing.{AtCursor, InTexts, Nowhere, OpensText, OpensUsage, Turns}
-use Rattle.rdlpp_state.specs.Steps.{BeforeCall, HaltsAt, InCall, IsOwn, OnRead, StopsInCall, UncutStep, is_call_failed, is_memory_kind, is_read_failed, is_write_failed}
+use Rattle.rdlpp_state.specs.Steps.{BeforeCall, FaultsWhere, InCall, IsOwn, OnRead, StopsInCall, UncutStep, is_call_failed, is_memory_kind, is_read_failed, is_write_failed}
 use Rattle.rdlpp_state.specs.declared.place.Halt.{Halt}
 use Rattle.rdlpp_state.specs.declared.place.Halt.TheVariants.{Fault}
 use Rattle.rdlpp_state.specs.declared.place.PieceLocation.TheVariants.{Text}
@@ -481,8 +481,8 @@ module _ {S R : Type 0} (g : Ghosts S R) (old : EngineView S R) (ready : IsReady
     stores_in f catalog stops =
         keeps_broken g old f include_stack s opening x.arguments uses.used len (IsExactOpening opening) macro.formals ready.free ready.idle ready.include_stack catalog uses.inner uses.moves inside mode unopened kept stops
 
-    halts_in : (f : Report) → HaltsAt g 0 old (stopped_engine f)
-    halts_in f = record { at = old; reached = reaches_same g old; few = no_part _ refl; idle = λ h none. h.idle (inl ready.free) none; text = λ t. refl; drained = ready.pending; stopped = InCall (stops_in f) }
+    faults_in : (f : Report) → FaultsWhere g 0 old (stopped_engine f)
+    faults_in f = record { at = old; reached = reaches_same g old; few = no_part _ refl; idle = λ h none. h.idle (inl ready.free) none; text = λ t. refl; drained = ready.pending; stopped = InCall (stops_in f) }
 
     -- and stands in the same state
     same_here : (f : Report) → state_of (stopped_engine f) ≡ state_of old
@@ -495,7 +495,7 @@ module _ {S R : Type 0} (g : Ghosts S R) (old : EngineView S R) (ready : IsReady
     usage_faults : (f : Report) → IsOwn f.kind → IsBounded (stopped_engine f) → SourcesCalled g false false old.sources s
         → (g.has_known_texts old.sources → text_by (run_rules g old) g old ≡ leaves (fails f) (state_of old)) → UncutStep g old (stopped_engine f) (Err f)
     usage_faults f own bounded call law =
-        walks_kept g old (stopped_engine f) ready.free ready.open_ bounded f own refl (halts_in f) call
+        walks_kept g old (stopped_engine f) ready.free ready.open_ bounded f own refl (faults_in f) call
         (λ t. by_run g old ∙ (law t ∙ ap (leaves (fails f)) (sym (same_here f)))) (stores_in f call.catalog (own_stops (stopped_engine f) f refl (own_failed f.kind own)))
 
     -- the usage is refused, at its line about its name
@@ -520,7 +520,7 @@ module _ {S R : Type 0} (g : Ghosts S R) (old : EngineView S R) (ready : IsReady
         let f = fault_at fault.ReadFailed (reading_line_of (inner_buffer include_stack)) [] (state_of old) in
         let here : f ≡ fault_at fault.ReadFailed (reading_line_of (inner_buffer include_stack)) [] (state_of (stopped_engine f)) =
         ap (fault_at fault.ReadFailed (reading_line_of (inner_buffer include_stack)) []) (sym (same_here f)) in
-        walks_ceased g old (stopped_engine f) ready.free ready.open_ bounded f (OnRead (inl unheld) here) refl refl refl (halts_in f)
+        walks_ceased g old (stopped_engine f) ready.free ready.open_ bounded f (OnRead (inl unheld) here) refl refl refl (faults_in f)
         (record { open_ = ready.open_; still = ready.open_; at = old; stood = BeforeCall (stops_in f) unheld; text = λ t. refl }) call (stores_in f call.catalog (read_stops (stopped_engine f) f refl ready.open_ (inl unheld)))
 
 -- a usage as a step of the engine, by what its opening says

@@ -125,26 +125,26 @@ pub record StopsAtFront {S R : Type 0} (g : Ghosts S R) (at new : EngineView S R
   pub moves : Slides (g.has_known_texts at.sources) ⊥ g.unread (inner_buffer at.files.include_stack) (inner_buffer new.files.include_stack)
 
 -- where a fault comes: at the front of what is held, or in the call of a usage that stands there
-pub data Halted {S R : Type 0} (g : Ghosts S R) (at new : EngineView S R) : Type 0 where
-  AtFront : StopsAtFront g at new → Halted g at new
-  InCall : StopsInCall g at new → Halted g at new
+pub data Faulted {S R : Type 0} (g : Ghosts S R) (at new : EngineView S R) : Type 0 where
+  AtFront : StopsAtFront g at new → Faulted g at new
+  InCall : StopsInCall g at new → Faulted g at new
 
 -- a fault in an open text: it came to an engine that was reached by steps that lend none, of which there are no more than so many, of
 -- which the same text remained, and that pending nothing; that engine kept nothing where no call in the source was open
-pub record HaltsAt {S R : Type 0} (g : Ghosts S R) (silent : ℕ) (old new : EngineView S R) : Type 0 where
+pub record FaultsWhere {S R : Type 0} (g : Ghosts S R) (silent : ℕ) (old new : EngineView S R) : Type 0 where
   pub at : EngineView S R
   pub reached : Reaches g old at
   pub few : length reached.between ≤ silent
   pub idle : LetsGo old → called_formals at.table.macros at.expansion.opens ≡ None → at.expansion.arguments ≡ []
   pub text : g.has_known_texts old.sources → text_of g old ≡ text_of g at
   pub drained : at.pending ≡ nothing_pending
-  pub stopped : Halted g at new
+  pub stopped : Faulted g at new
 
 -- what an answer leaves of an open text: where it ended, nothing is pending; where a fault came, nothing else changed
-abbrev pub Halts : {S R : Type 0} → Ghosts S R → ℕ → Result (Option (List ℕ)) Report → EngineView S R → EngineView S R → Type 0
-Halts g silent (Ok (Some bytes)) old new = ⊤
-Halts g silent (Ok None) old new = new.pending ≡ nothing_pending
-Halts g silent (Err f) old new = HaltsAt g silent old new
+abbrev pub EndsOrFaults : {S R : Type 0} → Ghosts S R → ℕ → Result (Option (List ℕ)) Report → EngineView S R → EngineView S R → Type 0
+EndsOrFaults g silent (Ok (Some bytes)) old new = ⊤
+EndsOrFaults g silent (Ok None) old new = new.pending ≡ nothing_pending
+EndsOrFaults g silent (Err f) old new = FaultsWhere g silent old new
 
 -- an engine that was started
 abbrev pub IsStarted : {S R : Type 0} → EngineView S R → Type 0
@@ -174,7 +174,7 @@ pub record StepSpec {S R : Type 0} (g : Ghosts S R) (silent : ℕ) (left : Engin
   pub text : old.kept ≡ None → old.phase ≡ Open → has_stopped old.kept answer ≡ false → g.has_known_texts old.sources
       → TellsText (most old.quota) g answer (text_of g old) new
   pub reads : has_stopped old.kept answer ≡ true → StopsReading g old new
-  pub halts : old.kept ≡ None → old.phase ≡ Open → Halts g silent answer old new
+  pub ends_or_faults : old.kept ≡ None → old.phase ≡ Open → EndsOrFaults g silent answer old new
   pub falls : (bytes : List ℕ) → answer ≡ Ok (Some bytes) → work_left new < work_left old
   pub lends : (bytes : List ℕ) → answer ≡ Ok (Some bytes) → (old.phase ≡ Open) × (goes_on new.phase ≡ true)
   pub quota : new.quota + spent answer ≡ old.quota

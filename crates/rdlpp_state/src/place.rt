@@ -21,10 +21,8 @@ pub enum PieceLocation {
     Text(TextPlace),
     /// In the texts that are pending.
     Pending(PendingPiece),
-    /// At the end.
-    End,
-    /// In the fault that is kept.
-    Fault,
+    /// Nowhere: nothing more is lent.
+    Halt(Halt),
 }
 
 /// Why an engine lends nothing more.

@@ -1,12 +1,13 @@
 // Steps that take what is held of a source, and the lending of text that is copied.
 ghost use Rattle.std.specs.Prelude.{◌≡◌, ◌↔◌, ◌<◌, [], IfSome, IsTrue, None, length, take};
+ghost use Rattle.std.specs.Option.{option_map};
 ghost use Rattle.rdlpp_scan.specs.SourceTokens.{line_ends};
 ghost use Rattle.rdlpp_read.specs.Buffer.{held_of};
 ghost use Rattle.rdlpp_read.specs.Files.{inner_buffer};
 ghost use Rattle.rdlpp_front.specs.SourceItems.{IsText};
 ghost use Rattle.rdlpp_state.specs.Held.{IsBounded};
 ghost use Rattle.rdlpp_state.specs.Moves.{IsReady, IsDrained};
-ghost use Rattle.rdlpp_state.specs.Pieces.{IsPlaced, lent_answer, location_of, step_answer};
+ghost use Rattle.rdlpp_state.specs.Pieces.{IsPlaced, lent_answer, step_answer};
 ghost use Rattle.rdlpp_state.specs.Steps.{IsStarted, UncutStep, UncutStepWithin};
 
 use crate::engine::Engine;
@@ -57,11 +58,10 @@ impl<S: Sources> Engine<S> {
 // Where a step has led that lends nothing, as of other steps.
 #[inline(always)]
 pub(super) fn location_of(halt: Option<Halt>) -> Option<PieceLocation>
-    ensures { result ≡ location_of halt }
+    ensures { result ≡ option_map PieceLocation.Halt halt }
 {
     match halt {
         None => None,
-        Some(Halt::End) => Some(PieceLocation::End),
-        Some(Halt::Fault) => Some(PieceLocation::Fault),
+        Some(halt) => Some(PieceLocation::Halt(halt)),
     }
 }

@@ -9,7 +9,7 @@ ghost use Rattle.rdlpp_expand.specs.Texts.{IsInTexts, LeavesTexts, StaysDrained,
 
 use crate::engine::Engine;
 use rdlpp_source::Sources;
-use rdlpp_state::{Phase, PieceLocation};
+use rdlpp_state::{Halt, Phase, PieceLocation};
 use rdlpp_texts::{CursorStep, TextPlace, text_at};
 
 // How many steps of a run that come to no bytes are taken in a row, before one more: 256 in all.
@@ -34,7 +34,7 @@ impl TextStep {
         match self {
             TextStep::Lent(place) => Some(PieceLocation::Text(place)),
             TextStep::Silent => None,
-            TextStep::Fault => Some(PieceLocation::Fault),
+            TextStep::Fault => Some(PieceLocation::Halt(Halt::Fault)),
         }
     }
 }

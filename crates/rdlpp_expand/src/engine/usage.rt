@@ -1,5 +1,5 @@
 // Usages of macros in the open sources.
-ghost use Rattle.std.specs.Prelude.{[], ◌≡◌, ◌<◌, ◌≤◌, ◌^◌, true, length, None, Some, IfSome};
+ghost use Rattle.std.specs.Prelude.{[], ◌≡◌, ◌<◌, ◌≤◌, ◌^◌, true, length, None, Some};
 ghost use Rattle.rdlpp_scan.specs.Names.{IsWordBytes};
 ghost use Rattle.rdlpp_table.specs.Table.{macro_named};
 ghost use Rattle.rdlpp_table.specs.View.{macro_at};
@@ -10,7 +10,7 @@ ghost use Rattle.rdlpp_front.specs.SourceItems.{IsUsage, usage_name};
 ghost use Rattle.rdlpp_state.specs.Held.{IsBounded};
 ghost use Rattle.rdlpp_state.specs.Moves.{IsReady};
 ghost use Rattle.rdlpp_state.specs.Standing.{OpensUsage};
-ghost use Rattle.rdlpp_state.specs.Pieces.{halted_answer, silent_answer};
+ghost use Rattle.rdlpp_state.specs.Pieces.{silent_answer};
 ghost use Rattle.rdlpp_state.specs.Remaining.{state_of};
 ghost use Rattle.rdlpp_state.specs.Steps.{UncutStep};
 

@@ -2,7 +2,7 @@ use Rattle.std.proofs.Common.{ap, subst}
 use Rattle.rdlpp_state.specs.Pieces.{lent_answer, IsPlaced}
 use Rattle.rdlpp_state.specs.Steps.{UncutStepWithin}
 use Rattle.rdlpp_state.specs.Silences.{most_silent}
-use Rattle.rdlpp_state.proofs.LentPieces.{cut_end, cut_kept, cut_pending, cut_source, cut_text, pending_placed, text_cut_placed}
+use Rattle.rdlpp_state.proofs.LentPieces.{cut_halt, cut_pending, cut_source, cut_text, pending_placed, text_cut_placed}
 use Rattle.rdlpp_expand.proofs.engine.Engine.clip_to_quota.Goals as goal
 
 pub returns-in-Source-clause-steps : goal.returns-in-Source-clause-steps
@@ -32,11 +32,8 @@ pub returns-in-Pending-clause-place : goal.returns-in-Pending-clause-place
 returns-in-Pending-clause-place g c =
     rw c.cut.ensures (pending_placed c.args.self.now c.charge_quota-len-in-Pending.new.self c.in-Pending.piece c.charge_quota-len-in-Pending.result (subst (λ p. IsPlaced c.args.self.now p) c.in-Pending.is c.requires.placed) (record { fits = c.charge_quota-len-in-Pending.ensures.fits; passes = c.charge_quota-len-in-Pending.ensures.passes }))
 
-pub returns-in-End-clause-steps : goal.returns-in-End-clause-steps
-returns-in-End-clause-steps g c before w = cut_end g.S.Sources before c.args.self.now (subst (λ p. UncutStepWithin g.S.Sources most_silent before c.args.self.now (lent_answer c.args.self.now p)) c.in-End.is w)
-
-pub returns-in-Fault-clause-steps : goal.returns-in-Fault-clause-steps
-returns-in-Fault-clause-steps g c before w = cut_kept g.S.Sources before c.args.self.now c.args.self.now.kept (subst (λ p. UncutStepWithin g.S.Sources most_silent before c.args.self.now (lent_answer c.args.self.now p)) c.in-Fault.is w)
+pub returns-in-Halt-clause-steps : goal.returns-in-Halt-clause-steps
+returns-in-Halt-clause-steps g c before w = cut_halt g.S.Sources before c.args.self.now c.in-Halt.halt (subst (λ p. UncutStepWithin g.S.Sources most_silent before c.args.self.now (lent_answer c.args.self.now p)) c.in-Halt.is w)
 
 pub charge_quota-len-requires : goal.charge_quota-len-requires
 charge_quota-len-requires g c = c.requires.open _ (ap (lent_answer c.args.self.now) c.in-Source.is)

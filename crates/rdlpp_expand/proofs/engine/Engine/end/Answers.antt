@@ -32,11 +32,11 @@ unfolding breach_kind
 returns-in-InStr g c =
     let same = c.file.ensures.buffer ∙ ap (λ e. inner_buffer e.files.include_stack) c.self.view_is in
     stops_open c.args.self.now c.record_fault_at.new.self c.record_fault_at.result Breach.StringOpen InStr c.open_token_line-opened.result
-    c.record_fault_at.ensures.place (ap (λ b. b.mode) (sym same) ∙ (sym c.mode.ensures ∙ c.in-InStr.is)) refl (own_kind _ refl) (c.open_token_line-opened.ensures ∙ ap (λ b. b.open_token_line) same) (rw c.new.ensures at c.record_fault_at.ensures.kept)
+    c.record_fault_at.ensures.halt (ap (λ b. b.mode) (sym same) ∙ (sym c.mode.ensures ∙ c.in-InStr.is)) refl (own_kind _ refl) (c.open_token_line-opened.ensures ∙ ap (λ b. b.open_token_line) same) (rw c.new.ensures at c.record_fault_at.ensures.kept)
 
 pub returns-in-InBlock : goal.returns-in-InBlock
 unfolding breach_kind
 returns-in-InBlock g c =
     let same = c.file.ensures.buffer ∙ ap (λ e. inner_buffer e.files.include_stack) c.self.view_is in
     stops_open c.args.self.now c.record_fault_at-in-InBlock.new.self c.record_fault_at-in-InBlock.result Breach.CommentOpen InBlock c.open_token_line-opened.result
-    c.record_fault_at-in-InBlock.ensures.place (ap (λ b. b.mode) (sym same) ∙ (sym c.mode.ensures ∙ c.in-InBlock.is)) refl (own_kind _ refl) (c.open_token_line-opened.ensures ∙ ap (λ b. b.open_token_line) same) (rw c.new-in-InBlock.ensures at c.record_fault_at-in-InBlock.ensures.kept)
+    c.record_fault_at-in-InBlock.ensures.halt (ap (λ b. b.mode) (sym same) ∙ (sym c.mode.ensures ∙ c.in-InBlock.is)) refl (own_kind _ refl) (c.open_token_line-opened.ensures ∙ ap (λ b. b.open_token_line) same) (rw c.new-in-InBlock.ensures at c.record_fault_at-in-InBlock.ensures.kept)

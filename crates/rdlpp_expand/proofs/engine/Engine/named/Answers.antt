@@ -21,7 +21,7 @@ pub returns-in-None : goal.returns-in-None
 unfolding given_name
 returns-in-None g c =
     subst (λ (x : Option Argument). LooksAtName x c.args.self.now c.record_fault.new.self (Err c.record_fault.result)) (sym c.in-None.is)
-    (c.record_fault.ensures.place, record { kind = NameExpected; word = []; own = own_kind _ refl; faulty = refl; becomes = c.record_fault.ensures.kept })
+    (c.record_fault.ensures.halt, record { kind = NameExpected; word = []; own = own_kind _ refl; faulty = refl; becomes = c.record_fault.ensures.kept })
 
 pub returns-then-is_some : goal.returns-then-is_some
 unfolding given_name
@@ -34,7 +34,7 @@ returns-then-is_some g c =
     let taken : is_reserved (name h) ≡ true = ap (λ z. is_reserved (name z)) (sym held) ∙ (sym c.reserved.ensures.reserved ∙ (sym c.is_some.ensures ∙ c.if-is_some.true)) in
     let word : c.word_of-word.result.bytes ≡ take 128 (name h) = c.word_of-word.ensures ∙ ap (λ z. take 128 (name z)) held in
     subst (λ (x : Option Argument). LooksAtName x e c.record_word_fault.new.self (Err c.record_word_fault.result)) (sym c.in-Some.is) (
-      c.record_word_fault.ensures.place,
+      c.record_word_fault.ensures.halt,
       record { kind = ReservedName; word = name h; own = own_kind _ refl; faulty = rw taken refl; becomes = kept_cut e c.record_word_fault.new.self _ _ _ _ _ c.record_word_fault.ensures.kept word },
     )
 

@@ -28,7 +28,7 @@ pub returns-in-Failed : goal.returns-in-Failed
 returns-in-Failed g c = λ bounded.
     let e = c.args.self.now in
     fails_step g.S.Sources e c.open_macro.new.self c.args.len c.requires.ready c.requires.live c.requires.mode c.requires.usage c.facts.ensures.texts c.record_read_fault.new.self c.record_read_fault.result
-    (subst (λ (o : Opening). OpensUsage g.S.Sources c.args.len e c.open_macro.new.self o) c.in-Failed.is c.open_macro.ensures) bounded c.record_read_fault.ensures.place c.record_read_fault.ensures.kept
+    (subst (λ (o : Opening). OpensUsage g.S.Sources c.args.len e c.open_macro.new.self o) c.in-Failed.is c.open_macro.ensures) bounded c.record_read_fault.ensures.halt c.record_read_fault.ensures.kept
 
 pub returns-in-Refused : goal.returns-in-Refused
 returns-in-Refused g c = λ bounded.

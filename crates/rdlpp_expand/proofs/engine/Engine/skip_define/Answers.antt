@@ -45,7 +45,7 @@ returns-in-TooLong g c = λ bounded.
     let o = c.args.self.now in
     let e = c.in-TooLong.ensures in
     let r : IsRead g.S.Sources o c.hold_line.new.self = record { becomes = e.becomes; only = e.only; moves = slid _ _ _ _ _ e.holds.slides } in
-    refuses g.S.Sources o c.hold_line.new.self c.record_fault.new.self c.record_fault.result fault.LineTooLong _ [] c.requires.ready r bounded c.record_fault.ensures.place
+    refuses g.S.Sources o c.hold_line.new.self c.record_fault.new.self c.record_fault.result fault.LineTooLong _ [] c.requires.ready r bounded c.record_fault.ensures.halt
     c.record_fault.ensures.kept (own_kind _ refl) (called g.S.Sources false _ _ e.call)
     (λ t. left_long g.S.Sources o c.record_fault.new.self c.requires.ready bounded c.requires.some (skipping o c.requires.ready c.requires.skipped) c.requires.mode c.requires.define c.hold_line.new.self r e.holds t)
 
@@ -54,7 +54,7 @@ returns-in-SourceLong g c = λ bounded.
     let o = c.args.self.now in
     let e = c.in-SourceLong.ensures in
     let r : IsRead g.S.Sources o c.hold_line.new.self = record { becomes = e.becomes; only = e.only; moves = slid _ _ _ _ _ e.holds.slides } in
-    refuses g.S.Sources o c.hold_line.new.self c.record_fault-in-SourceLong.new.self c.record_fault-in-SourceLong.result fault.SourceTooLong _ [] c.requires.ready r bounded c.record_fault-in-SourceLong.ensures.place
+    refuses g.S.Sources o c.hold_line.new.self c.record_fault-in-SourceLong.new.self c.record_fault-in-SourceLong.result fault.SourceTooLong _ [] c.requires.ready r bounded c.record_fault-in-SourceLong.ensures.halt
     c.record_fault-in-SourceLong.ensures.kept (own_kind _ refl) (called g.S.Sources false _ _ e.call)
     (λ t. left_cut g.S.Sources o c.record_fault-in-SourceLong.new.self c.requires.ready bounded c.requires.some (skipping o c.requires.ready c.requires.skipped) c.requires.mode c.requires.define c.hold_line.new.self r e.holds t)
 
@@ -64,5 +64,5 @@ returns-in-Failed g c = λ bounded.
     let e = c.in-Failed.ensures in
     let r : IsRead g.S.Sources o c.hold_line.new.self = record { becomes = e.becomes; only = e.only; moves = slid _ _ _ _ _ e.holds.slides } in
     fails_reading g.S.Sources o c.hold_line.new.self c.record_read_fault.new.self c.record_read_fault.result c.requires.ready r (reading_define _ _ e.holds.extends.more c.requires.some c.requires.define e.holds.extends.held) bounded
-    c.record_read_fault.ensures.place c.record_read_fault.ensures.kept (called g.S.Sources true _ _ e.call)
+    c.record_read_fault.ensures.halt c.record_read_fault.ensures.kept (called g.S.Sources true _ _ e.call)
     (λ t. left_unheld g.S.Sources o c.hold_line.new.self c.requires.ready t e.holds)

@@ -9,7 +9,7 @@ use Rattle.rdlpp_state.proofs.Stores.{own_kind}
 pub returns-in-EmbeddedPerl : goal.returns-in-EmbeddedPerl
 returns-in-EmbeddedPerl g c = λ bounded.
     let e = c.args.self.now in
-    refuses g.S.Sources e e c.record_fault.new.self c.record_fault.result fault.EmbeddedPerl _ [] c.requires.ready (read_nothing e) bounded c.record_fault.ensures.place
+    refuses g.S.Sources e e c.record_fault.new.self c.record_fault.result fault.EmbeddedPerl _ [] c.requires.ready (read_nothing e) bounded c.record_fault.ensures.halt
     (rw c.in-EmbeddedPerl.is at c.record_fault.ensures.kept) (own_kind _ refl) (not_called g.S.Sources e.sources)
     (λ t. left_perl g.S.Sources e c.record_fault.new.self c.requires.ready bounded c.requires.some (skipping e c.requires.ready c.requires.skipped) (perl_is _ _ _ c.requires.refused c.in-EmbeddedPerl.is))
 

@@ -29,7 +29,7 @@ returns-in_Refused-self g c = λ bounded.
     let below : c.file.result.now.conditions_below ≡ inner_below e.files.include_stack = sym (ap inner_below c.file.ensures.inner) ∙ ap (λ e. inner_below e.files.include_stack) c.self.view_is in
     let is : IsBranch (place_of c.file.result.now.conditions_below e.conditions) c.args.word (Refused c.in_Refused-self.kind) = rw (← c.self.view_is) c.in_Refused-self.ensures in
     refused_steps g.S.Sources e c.record_fault.new.self c.requires.ready bounded c.requires.some c.requires.mode c.args.word c.args.argument c.requires.branch c.record_fault.result c.in_Refused-self.kind
-    (meets_here c.args.word (Refused c.in_Refused-self.kind) e c.requires.ready c.file.result.now.conditions_below below is) c.record_fault.ensures.place c.record_fault.ensures.kept
+    (meets_here c.args.word (Refused c.in_Refused-self.kind) e c.requires.ready c.file.result.now.conditions_below below is) c.record_fault.ensures.halt c.record_fault.ensures.kept
 
 pub turn-requires-clause-own : goal.turn-requires-clause-own
 turn-requires-clause-own g c =

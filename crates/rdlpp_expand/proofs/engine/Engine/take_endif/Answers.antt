@@ -24,7 +24,7 @@ returns-in-Err g c = λ bounded.
     rw (← c.self.view_is) c.record_fault.ensures.kept in
     end_refused g.S.Sources e c.record_fault.new.self c.requires.ready bounded c.requires.some c.requires.mode _ c.record_fault.result c.in-Err.kind c.close.new.self
     (ends_here {A = Unit {0}} (Err c.in-Err.kind) e c.close.new.self c.requires.ready c.file.result.now.conditions_below below
-    (let h : Closes {A = Unit {0}} (place_of c.file.result.now.conditions_below e.conditions) (Err c.in-Err.kind) e.conditions c.close.new.self = rw (← c.self.view_is) c.in-Err.ensures in h)) c.requires.closing c.record_fault.ensures.place kept
+    (let h : Closes {A = Unit {0}} (place_of c.file.result.now.conditions_below e.conditions) (Err c.in-Err.kind) e.conditions c.close.new.self = rw (← c.self.view_is) c.in-Err.ensures in h)) c.requires.closing c.record_fault.ensures.halt kept
 
 pub invariant_of-self : goal.invariant_of-self
 invariant_of-self g c =

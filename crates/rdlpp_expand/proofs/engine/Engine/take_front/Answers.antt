@@ -13,7 +13,7 @@ returns-in-Refused g c = λ bounded.
     let held : c.held.result.now ≡ held_of (inner_buffer e.files.include_stack) = c.held.ensures.value ∙ ap held_of same in
     let mode : c.mode.result ≡ (inner_buffer e.files.include_stack).mode = c.mode.ensures ∙ ap (λ b. b.mode) same in
     let refused : IsRefused (inner_buffer e.files.include_stack).mode (held_of (inner_buffer e.files.include_stack)) c.in-Refused.kind = rw (← mode, ← held) c.in-Refused.ensures in
-    refuses g.S.Sources e e c.record_fault.new.self c.record_fault.result c.in-Refused.kind _ [] c.requires.ready (read_nothing e) bounded c.record_fault.ensures.place c.record_fault.ensures.kept
+    refuses g.S.Sources e e c.record_fault.new.self c.record_fault.result c.in-Refused.kind _ [] c.requires.ready (read_nothing e) bounded c.record_fault.ensures.halt c.record_fault.ensures.kept
     (refused_kind _ _ _ refused) (not_called g.S.Sources e.sources)
     (λ t. left_refused g.S.Sources e c.in-Refused.kind c.requires.ready c.requires.live c.requires.some refused)
 

@@ -10,7 +10,7 @@ pub returns-in-None : goal.returns-in-None
 returns-in-None g c = λ bounded.
     let e = c.args.self.now in
     refuses g.S.Sources e e c.record_fault.new.self c.record_fault.result fault.IncludeName _ [] c.requires.ready (read_nothing e) bounded
-    c.record_fault.ensures.place c.record_fault.ensures.kept (own_kind _ refl) (not_called g.S.Sources e.sources)
+    c.record_fault.ensures.halt c.record_fault.ensures.kept (own_kind _ refl) (not_called g.S.Sources e.sources)
     (λ t. left_nameless_include g.S.Sources e c.requires.ready c.requires.live c.requires.some c.requires.mode (rw c.in-None.is at c.requires.include))
 
 pub returns-in-Ok : goal.returns-in-Ok
@@ -21,4 +21,4 @@ returns-in-Ok g c = λ bounded.
 pub returns-in-Err : goal.returns-in-Err
 returns-in-Err g c = λ bounded.
     denied_steps g.S.Sources c.args.self.now c.seek.new.self c.record_fault-in-Err.new.self c.in-Some.given.start c.in-Some.given.stop c.requires.ready c.requires.live c.requires.some c.requires.mode (rw c.in-Some.is at c.requires.include) bounded
-    c.in-Err.ensures.becomes c.record_fault-in-Err.result c.in-Err.kind c.record_fault-in-Err.ensures.place c.in-Err.ensures.sought c.record_fault-in-Err.ensures.kept
+    c.in-Err.ensures.becomes c.record_fault-in-Err.result c.in-Err.kind c.record_fault-in-Err.ensures.halt c.in-Err.ensures.sought c.record_fault-in-Err.ensures.kept

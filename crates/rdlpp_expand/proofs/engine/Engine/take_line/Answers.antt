@@ -18,7 +18,7 @@ pub returns-then-not-file : goal.returns-then-not-file
 returns-then-not-file g c = λ bounded.
     let e = c.args.self.now in
     let late : inner_blanks e.files.include_stack ≡ false = ap inner_blanks (ap (λ e. e.files.include_stack) (sym c.self.view_is) ∙ c.file-file.ensures.inner) ∙ c.if-not-file.true in
-    refuses g.S.Sources e e c.record_fault.new.self c.record_fault.result fault.BadLine _ [] c.requires.ready (read_nothing e) bounded c.record_fault.ensures.place c.record_fault.ensures.kept
+    refuses g.S.Sources e e c.record_fault.new.self c.record_fault.result fault.BadLine _ [] c.requires.ready (read_nothing e) bounded c.record_fault.ensures.halt c.record_fault.ensures.kept
     (own_kind _ refl) (not_called g.S.Sources e.sources)
     (λ t. left_late_line g.S.Sources e c.requires.ready c.requires.live c.requires.some c.requires.mode c.requires.line late)
 
@@ -28,7 +28,7 @@ returns-in-None g c = λ bounded.
     let held : c.held.result.now ≡ held_of (inner_buffer e.files.include_stack) = c.held.ensures.value ∙ ap held_of (c.file-file.ensures.buffer ∙ ap (λ e. inner_buffer e.files.include_stack) c.self.view_is) in
     let word : c.word_len.result ≡ 5 = c.word_len.ensures in
     let bad = subst (λ (x : List ℕ). renumbered (take (line_len x) x) ≡ None) (take_rest c.held.result.now 5 ∙ ap (λ (x : List ℕ). drop 5 x) held) (rw word at c.in-None.ensures) in
-    refuses g.S.Sources e e c.record_fault-in-None.new.self c.record_fault-in-None.result fault.BadLine _ [] c.requires.ready (read_nothing e) bounded c.record_fault-in-None.ensures.place
+    refuses g.S.Sources e e c.record_fault-in-None.new.self c.record_fault-in-None.result fault.BadLine _ [] c.requires.ready (read_nothing e) bounded c.record_fault-in-None.ensures.halt
     c.record_fault-in-None.ensures.kept (own_kind _ refl) (not_called g.S.Sources e.sources)
     (λ t. left_bad_line g.S.Sources e c.requires.ready c.requires.live c.requires.some c.requires.mode c.requires.line bad)
 
