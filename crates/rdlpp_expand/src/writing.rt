@@ -1,5 +1,5 @@
 // Runs: the output, written to a sink.
-ghost use Rattle.std.specs.Prelude.{[], ◌≡◌, true, ◌↔◌, ◌≤◌, if◌then◌else◌, IsTrue, None, Some, length, take, false, not};
+ghost use Rattle.std.specs.Prelude.{[], ◌≡◌, ℕ, true, ◌↔◌, ◌≤◌, if◌then◌else◌, IsTrue, None, Some, length, take, false, not};
 ghost use Rattle.std.specs.Io.KnownBytes.{Appends, Keeps};
 ghost use Rattle.rdlpp_source.specs.Counts.{Counts};
 ghost use Rattle.rdlpp_expand.specs.Run.{Flushes, Pulls, Runs, Unflushed, Wrote, count_of, fault_of};
@@ -64,50 +64,40 @@ pub fn run_watched<S: Sources, W: Sink, V: Watcher>(
             let pulled = pull_text(engine, writer, watcher);
             written = written.saturating_add(pulled.len as u64);
             if let Some(ending) = pulled.ending {
-                return finish(engine, writer, written, ending);
+                finish(engine, writer, ending);
+                return outcome(engine, written);
             }
             in_texts = pulled.in_texts;
         } else {
             let pulled = pull(engine, writer, watcher);
             written = written.saturating_add(pulled.len as u64);
             if let Some(ending) = pulled.ending {
-                return finish(engine, writer, written, ending);
+                finish(engine, writer, ending);
+                return outcome(engine, written);
             }
             in_texts = engine.is_in_texts();
         }
     }
 }
 
-// Ends a run that wrote so many bytes: flushes the sink, unless a write failed, and answers the fault that the engine keeps, or how
-// many bytes the writer took.
-fn finish<S: Sources, W: Sink>(
-    engine: &mut Engine<S>,
-    writer: &mut W,
-    written: u64,
-    ending: Ending,
-) -> Result<u64, RunFault>
-    ensures runs { (start : EngineView S S.Reader) → (empty : W) → Wrote S.Sources W.Sink start engine.old empty writer.old written (Some ending) → Runs S.Sources W.Sink start engine.new empty writer.new (count_of result) (fault_of result) }
+// Ends a run: flushes the sink, unless a write failed. The engine keeps that a write or the flush failed, unless another fault came
+// before.
+fn finish<S: Sources, W: Sink>(engine: &mut Engine<S>, writer: &mut W, ending: Ending)
+    ensures runs { (start : EngineView S S.Reader) → (empty : W) → (written : ℕ) → Wrote S.Sources W.Sink start engine.old empty writer.old written (Some ending) → Runs S.Sources W.Sink start engine.new empty writer.new written engine.new.kept }
     ensures keeps { Keeps (W.taken writer.old) (W.taken writer.new) }
 {
     match ending {
         Ending::Finished => {
-            if is_flushed(writer) {
-                return Ok(written);
+            if !is_flushed(writer) {
+                engine.record_write_fault();
             }
-            engine.record_write_fault();
-            outcome(engine, written)
         }
         Ending::Stopped => {
-            if engine.keeps_write_failure() {
-                return outcome(engine, written);
+            if !engine.keeps_write_failure() {
+                let _flushed = is_flushed(writer);
             }
-            let _flushed = is_flushed(writer);
-            outcome(engine, written)
         }
-        Ending::Unwritten => {
-            engine.record_write_fault();
-            outcome(engine, written)
-        }
+        Ending::Unwritten => engine.record_write_fault(),
     }
 }
 
