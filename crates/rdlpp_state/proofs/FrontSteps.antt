@@ -1,5 +1,5 @@
 -- What is taken of the open sources, as steps of the engine.
-use Rattle.std.proofs.Common.{◌≡◌, ℕ, zero, suc, ◌+◌, ◌-◌, ◌^◌, ◌≤◌, ◌<◌, true, false, List, [], ◌∷◌, ◌++◌, length, take, drop, replicate, append_assoc, append-nil, Option, None, Some, Ok, refl, sym, ap, ◌∙◌, subst, arith, slice_range, min, IfSome, take-take, length-drop, length-take}
+use Rattle.std.proofs.Common.{◌≡◌, ℕ, zero, suc, ◌+◌, ◌-◌, ◌^◌, ◌≤◌, ◌<◌, true, false, List, [], ◌∷◌, ◌++◌, length, take, drop, replicate, append_assoc, append-nil, Option, None, Some, Ok, refl, sym, ap, ◌∙◌, subst, arith, slice_range, min, take-take, length-drop, length-take}
 use Rattle.std.proofs.lemmas.List.{drop-take, take_rest}
 use Rattle.std.proofs.Math.Seq.{drop-nil}
 use Rattle.rdlpp_source.specs.Sources.{Catalog}
@@ -53,7 +53,7 @@ use Rattle.rdlpp_state.specs.Steps.{IsOwn, IsReading, UncutStep, is_memory_kind,
 use Rattle.rdlpp_state.specs.declared.phase.Phase.{Phase}
 use Rattle.rdlpp_state.specs.declared.phase.Phase.TheVariants.{Open}
 use Rattle.rdlpp_state.specs.declared.place.Halt.{Halt}
-use Rattle.rdlpp_state.specs.declared.place.Halt.TheVariants.{End, Fault}
+use Rattle.rdlpp_state.specs.declared.place.Halt.TheVariants.{Fault}
 use Rattle.rdlpp_state.specs.declared.place.PieceLocation.TheVariants.{Source, Pending}
 use Rattle.rdlpp_usages.specs.Usages.{texts_left}
 use Rattle.rdlpp_state.proofs.Soundness.{inner_facts, text_idle, with_inner-length}

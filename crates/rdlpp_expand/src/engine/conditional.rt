@@ -1,5 +1,5 @@
 // The directives of conditionals in the open sources.
-ghost use Rattle.std.specs.Prelude.{◌≡◌, ◌⊎◌, ◌+◌, ◌<◌, ◌≤◌, Bool, None, length};
+ghost use Rattle.std.specs.Prelude.{◌≡◌, ◌<◌, ◌≤◌, None, length};
 ghost use Rattle.rdlpp_scan.specs.declared.token.Directive.TheVariants.{Endif};
 ghost use Rattle.rdlpp_read.specs.Conditions.{place_of};
 ghost use Rattle.rdlpp_read.specs.ConditionMoves.{IsBranch, turned_with};

@@ -1,14 +1,14 @@
 // Steps that take what is held of a source, and the lending of text that is copied.
-ghost use Rattle.std.specs.Prelude.{◌≡◌, ◌↔◌, ◌<◌, [], IfSome, IsTrue, None, length, take};
+ghost use Rattle.std.specs.Prelude.{◌≡◌, ◌<◌, IfSome, None, length, take};
 ghost use Rattle.std.specs.Option.{option_map};
 ghost use Rattle.rdlpp_scan.specs.SourceTokens.{line_ends};
 ghost use Rattle.rdlpp_read.specs.Buffer.{held_of};
 ghost use Rattle.rdlpp_read.specs.Files.{inner_buffer};
 ghost use Rattle.rdlpp_front.specs.SourceItems.{IsText};
 ghost use Rattle.rdlpp_state.specs.Held.{IsBounded};
-ghost use Rattle.rdlpp_state.specs.Moves.{IsReady, IsDrained};
+ghost use Rattle.rdlpp_state.specs.Moves.{IsReady};
 ghost use Rattle.rdlpp_state.specs.Pieces.{IsPlaced, lent_answer, step_answer};
-ghost use Rattle.rdlpp_state.specs.Steps.{IsStarted, UncutStep, UncutStepWithin};
+ghost use Rattle.rdlpp_state.specs.Steps.{UncutStep};
 
 use crate::engine::Engine;
 use rdlpp_front::{Copied, copied_text};

@@ -1,5 +1,5 @@
 // Skipped text in the open sources.
-ghost use Rattle.std.specs.Prelude.{◌≡◌, ◌≢◌, ◌+◌, ◌<◌, ◌≤◌, None, length};
+ghost use Rattle.std.specs.Prelude.{◌≡◌, ◌≢◌, ◌<◌, ◌≤◌, None, length};
 ghost use Rattle.rdlpp_scan.specs.Reserved.{directive_word};
 ghost use Rattle.rdlpp_scan.specs.declared.token.Directive.TheVariants.{Define, Line};
 ghost use Rattle.rdlpp_read.specs.Buffer.{held_of};

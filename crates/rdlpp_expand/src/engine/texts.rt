@@ -1,8 +1,7 @@
 // Steps over the open texts of a usage.
-ghost use Rattle.std.specs.Prelude.{◌≡◌, ◌↔◌, ◌<◌, IfSome, IsTrue, length};
+ghost use Rattle.std.specs.Prelude.{◌≡◌, ◌↔◌, ◌<◌, IfSome, IsTrue};
 ghost use Rattle.rdlpp_texts.specs.Places.{IsPlaced as IsTextPlaced, place_bytes};
 ghost use Rattle.rdlpp_state.specs.Held.{IsBounded};
-ghost use Rattle.rdlpp_state.specs.Moves.{IsDrained};
 ghost use Rattle.rdlpp_state.specs.Pieces.{IsPlaced, held_texts, step_answer};
 ghost use Rattle.rdlpp_state.specs.Steps.{Step, UncutStep, UncutStepWithin};
 ghost use Rattle.rdlpp_expand.specs.Texts.{IsInTexts, LeavesTexts, StaysDrained, place_of};
