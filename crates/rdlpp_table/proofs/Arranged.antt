@@ -1,5 +1,5 @@
 -- The list of an index: the places with slack behind those of each group, and the offsets behind all, in one list.
-use Rattle.std.proofs.Common.{◌≡◌, ℕ, zero, suc, ◌+◌, ◌-◌, ◌*◌, ◌/◌, ◌^◌, ◌<◌, ◌≤◌, List, [], ◌++◌, All, length, get_or, set, length-append, length-set, map, take, drop, insert, remove, ap, sym, subst, ◌∙◌, arith, inl, inr, refl, replicate, ◌≢◌, get_or-drop, get_or-take, length-drop, length-take-le, take-append-drop, take_at}
+use Rattle.std.proofs.Common.{◌≡◌, ℕ, zero, suc, ◌+◌, ◌-◌, ◌*◌, ◌/◌, ◌^◌, ◌<◌, ◌≤◌, List, [], ◌++◌, All, length, get_or, set, length-append, length-set, map, take, drop, insert, remove, ap, sym, subst, ◌∙◌, arith, inl, inr, refl, replicate, ◌≢◌, get_or-drop, get_or-take, length-drop, length-take-le, take-append-drop, drop_at, take_at}
 use Rattle.std.specs.List.{copy_within, remove_range, slice_range}
 use Rattle.std.proofs.lemmas.Bool.{cases_lt, cond-false, cond-true, le-ltb, lt-ltb}
 use Rattle.std.proofs.lemmas.List.{drop-append-le, drop-drop, ext_get_or, get_or-append_right, get_or-map, get_or-replicate, get_or-set_other, get_or-set_same, get_or_append_left, get_or_past, length-map, length-replicate, nil_from_length}
@@ -10,11 +10,10 @@ use Rattle.std.proofs.lemmas.Slice.{between_is}
 use Rattle.rdlpp_table.specs.Index.{closed, IsLater, IsSooner}
 use Rattle.rdlpp_table.specs.IndexView.{AreMoved, Enters, IndexRoom, IndexView, IsArranged, IsInBucket, IsSpaced, Leaves, empty_index, group_of, places_in, places_room}
 use Rattle.rdlpp_table.proofs.Groups.{IsMapped, part_all}
-use borrow.Rule.Slice.PartMut.{mid_of, put_mid}
 
 -- an index of its parts
-abbrev view_of : List ℕ → List ℕ → List ℕ → ℕ → ℕ → IndexView
-view_of items before starts most offsets = record { places = places_in items before starts; bucket_starts = starts; formal_offsets = drop (get_or starts 1024 0 + get_or before 32 0) items; room = record { places = most; formal_offsets = offsets } }
+abbrev view_of : List ℕ → List ℕ → List ℕ → ℕ → ℕ → ℕ → IndexView
+view_of items before starts given_up most offsets = record { places = places_in items before starts; bucket_starts = starts; formal_offsets = drop given_up (drop (get_or starts 1024 0 + get_or before 32 0) items); room = record { places = most; formal_offsets = offsets } }
 
 -- where a group begins
 abbrev start : List ℕ → ℕ → ℕ
@@ -294,60 +293,44 @@ module _ (items new before new_before starts new_starts : List ℕ) (bucket gap 
       ap (λ (n : ℕ). drop n new) same
       ∙ same_rest new items _ _ (omega (arith, p.long)) (omega (arith, p.long)) (λ q. p.following (get_or starts 1024 0 + get_or before 32 0 + q) (omega arith))
 
-  pub entered_arranged : (len capacity group_slack most : ℕ) → IsArranged len capacity before starts group_slack most → get_or starts 1024 0 < most → IsArranged len capacity new_before new_starts group_slack most
-  entered_arranged len capacity group_slack most a h = record {
+  pub entered_arranged : (len capacity given_up most : ℕ) → IsArranged len capacity before starts given_up most → get_or starts 1024 0 < most → IsArranged len capacity new_before new_starts given_up most
+  entered_arranged len capacity given_up most a h = record {
     spaced = entered_spaced;
-    most = λ g k. elim (cases_lt own g) [
-      | inl c ↦ omega (arith, less g c k, a.most g k)
-      | inr c ↦ omega (arith, m.before g (omega arith), a.most g k)
-    ];
-    little = a.little;
     narrow = a.narrow;
     few = omega (arith, entered_count);
+    little = omega (arith, entered_end, a.little);
     inside = omega (arith, entered_end, a.inside);
     room = omega (arith, entered_end, a.room);
   }
 
   -- where the places and the offsets were those of an older list
-  pub enters : (old_items old_before : List ℕ) (most offsets new_offsets : ℕ) → places_in items before starts ≡ places_in old_items old_before starts → drop (get_or starts 1024 0 + get_or before 32 0) items ≡ drop (get_or starts 1024 0 + get_or old_before 32 0) old_items → new_offsets ≡ offsets → Enters gap place bucket (view_of old_items old_before starts most offsets) (view_of new new_before new_starts most new_offsets)
-  enters old_items old_before most offsets new_offsets f g h = record {
+  pub enters : (old_items old_before : List ℕ) (given_up most offsets new_offsets : ℕ) → places_in items before starts ≡ places_in old_items old_before starts → drop (get_or starts 1024 0 + get_or before 32 0) items ≡ drop (get_or starts 1024 0 + get_or old_before 32 0) old_items → new_offsets ≡ offsets → Enters gap place bucket (view_of old_items old_before starts given_up most offsets) (view_of new new_before new_starts given_up most new_offsets)
+  enters old_items old_before given_up most offsets new_offsets f g h = record {
     places = entered_places ∙ ap (λ (xs : List ℕ). insert xs gap place) f;
     bucket_starts = l;
-    formal_offsets = entered_offsets ∙ g;
+    formal_offsets = ap (drop given_up) (entered_offsets ∙ g);
     room = ap (λ (n : ℕ). let r : IndexRoom = record { places = most; formal_offsets = n } in r) h;
   }
 
--- A place that goes: what stands behind it moves one to the front, and the places that are left lie closer.
+-- A place that goes: what stands behind it in its group moves one to the front.
 
-record IsTaken (items new : List ℕ) (at end taken : ℕ) : Type 0 where
-  long : length new + 1 ≡ length items
-  before : (p : ℕ) → p < at → get_or new p 0 ≡ closed taken (get_or items p 0)
-  moved : (p : ℕ) → at ≤ p → p + 1 < end → get_or new p 0 ≡ closed taken (get_or items (p + 1) 0)
-  following : (p : ℕ) → end ≤ p + 1 → get_or new p 0 ≡ get_or items (p + 1) 0
+record IsTaken (items new : List ℕ) (at end : ℕ) : Type 0 where
+  long : length new ≡ length items
+  before : (p : ℕ) → p < at → get_or new p 0 ≡ get_or items p 0
+  moved : (p : ℕ) → at ≤ p → p + 1 < end → get_or new p 0 ≡ get_or items (p + 1) 0
+  following : (p : ℕ) → end ≤ p + 1 → get_or new p 0 ≡ get_or items p 0
 
-taken_out : (items new : List ℕ) (at end taken : ℕ) → at < end → end ≤ length items → new ≡ map (closed taken) (take (end - 1) (remove items at)) ++ drop (end - 1) (remove items at) → IsTaken items new at end taken
-taken_out items new at end taken o l e =
-    let left : List ℕ = remove items at in
-    let kept : List ℕ = take (end - 1) left in
-    let front : List ℕ = map (closed taken) kept in
-    let back : List ℕ = drop (end - 1) left in
-    let left_long : length left + 1 ≡ length items = omega (arith, length-remove items at (omega arith)) in
-    let kept_long : length kept ≡ end - 1 = length-take-le (end - 1) left (omega arith) in
-    let front_long : length front ≡ end - 1 = length-map kept (closed taken) ∙ kept_long in
-    let inside : (p : ℕ) → p + 1 < end → get_or new p 0 ≡ closed taken (get_or left p 0) = λ p h.
-    ap (λ (xs : List ℕ). get_or xs p 0) e
-    ∙ (get_or_append_left front back 0 p (omega arith)
-    ∙ (get_or-map (closed taken) kept p 0 0 (omega arith) ∙ ap (closed taken) (get_or-take (end - 1) left p 0 (omega arith)))) in
+taken_out : (items new : List ℕ) (at end : ℕ) → at < end → end ≤ length items → new ≡ copy_within items (at + 1) end at → IsTaken items new at end
+taken_out items new at end o l e =
+    let c = copied items (at + 1) end at (omega arith) l (omega arith) in
+    let in_copy : (p : ℕ) → get_or new p 0 ≡ get_or (copy_within items (at + 1) end at) p 0 = λ p. ap (λ (xs : List ℕ). get_or xs p 0) e in
     record {
-      long = omega (arith, ap (length {A = ℕ}) e, length-append front back, length-drop (end - 1) left);
-      before = λ p h. inside p (omega arith) ∙ ap (closed taken) (get_or-remove_below items at 0 p h (omega arith));
-      moved = λ p h k. inside p k ∙ ap (closed taken) (get_or-remove_above items at 0 p h (omega arith));
-      following = λ p h.
-          let same : end - 1 + (p - (end - 1)) ≡ p = omega arith in
-          ap (λ (xs : List ℕ). get_or xs p 0) e
-          ∙ (get_or-append_right front back (end - 1) p 0 front_long (omega arith)
-          ∙ (get_or-drop (end - 1) left (p - (end - 1)) 0
-          ∙ (ap (λ (q : ℕ). get_or left q 0) same ∙ get_or-remove_above items at 0 p (omega arith) (omega arith))));
+      long = ap (length {A = ℕ}) e ∙ c.long;
+      before = λ p h. in_copy p ∙ c.before p h;
+      moved = λ p h k.
+          let same : at + 1 + (p - at) ≡ p + 1 = omega arith in
+          in_copy p ∙ (c.inside p h (omega arith) ∙ ap (λ (q : ℕ). get_or items q 0) same);
+      following = λ p h. in_copy p ∙ c.following p (omega arith);
     }
 
 -- a place of a bucket stands in the group of that bucket
@@ -368,22 +351,63 @@ bucket_inside before starts bucket at s h i =
     let last : get_or starts (bucket + 1) 0 ≤ get_or starts 1024 0 = s.in_order (bucket + 1) 1024 (omega arith) (omega arith) in
     (omega (arith, i.to), omega (arith, i.to, s.rising (bucket / 32) 32 (omega arith) (omega arith)))
 
--- the groups behind one begin a place sooner
-module _ (items new before starts new_starts : List ℕ) (bucket at taken : ℕ) (small : bucket < 1024) (s : IsSpaced before starts)
+-- The places lie closer once one was taken out.
+
+record IsClosed (items new : List ℕ) (end taken : ℕ) : Type 0 where
+  places : (p : ℕ) → p < end → get_or new p 0 ≡ closed taken (get_or items p 0)
+  following : drop end new ≡ drop end items
+
+closed_list : (items new : List ℕ) (end taken : ℕ) → end ≤ length items → new ≡ map (closed taken) (take end items) ++ drop end items → IsClosed items new end taken
+closed_list items new end taken l e =
+    let kept : List ℕ = take end items in
+    let long : length (map (closed taken) kept) ≡ end = length-map kept (closed taken) ∙ length-take-le end items l in
+    record {
+      places = λ p h.
+          ap (λ (xs : List ℕ). get_or xs p 0) e
+          ∙ (get_or_append_left (map (closed taken) kept) (drop end items) 0 p (omega (arith, long))
+          ∙ (get_or-map (closed taken) kept p 0 0 (omega (arith, length-take-le end items l)) ∙ ap (closed taken) (get_or-take end items p 0 h)));
+      following = ap (drop end) e ∙ drop_at (map (closed taken) kept) (drop end items) end long;
+    }
+
+closed_places : (items new before starts : List ℕ) (taken : ℕ) → IsSpaced before starts → IsClosed items new (get_or starts 1024 0 + get_or before 32 0) taken → places_in new before starts ≡ map (closed taken) (places_in items before starts)
+closed_places items new before starts taken s c =
+    places_are new before starts (map (closed taken) (places_in items before starts)) s (length-map (places_in items before starts) (closed taken) ∙ places_long items before starts) (λ k g i.
+    let last : start starts (g + 1) ≤ get_or starts 1024 0 = s.in_order (32 * (g + 1)) 1024 (omega (arith, i.some)) (omega arith) in
+    let fits : k < length (places_in items before starts) = omega (arith, i.high, places_long items before starts) in
+    c.places (k + get_or before g 0) (omega (arith, i.high, s.rising g 32 (omega (arith, i.some)) (omega arith)))
+    ∙ (ap (closed taken) (sym (place_is before starts s items k g i)) ∙ sym (get_or-map (closed taken) (places_in items before starts) k 0 0 fits)))
+
+-- more slack may lie before each group behind one
+pub slack_fits : (len capacity : ℕ) (before starts : List ℕ) (given_up most group : ℕ) → IsArranged len capacity before starts given_up most → 0 < get_or starts 1024 0 → All (λ n. n + 1 < 2 ^ 32) (slice_range before (group + 1) 33)
+slack_fits len capacity before starts given_up most group a h =
+    part_all (λ n. n + 1 < 2 ^ 32) (group + 1) 33 before (omega (arith, a.spaced.groups)) (λ p l k. omega (arith, a.spaced.rising p 32 (omega arith) (omega arith), a.little, a.narrow))
+
+-- the groups behind one begin a place sooner, and more slack lies before them
+module _ (items new before new_before starts new_starts : List ℕ) (bucket at : ℕ) (small : bucket < 1024) (s : IsSpaced before starts)
     (i : IsInBucket starts bucket at) (l : IsSooner bucket starts new_starts)
     (some : (p : ℕ) → bucket < p → p ≤ 1024 → get_or starts bucket 0 < get_or starts p 0)
     (inside : get_or starts 1024 0 + get_or before 32 0 ≤ length items)
-    (e : new ≡ map (closed taken) (take (get_or starts 1024 0 + get_or before 32 0 - 1) (remove items (at + get_or before (bucket / 32) 0))) ++ drop (get_or starts 1024 0 + get_or before 32 0 - 1) (remove items (at + get_or before (bucket / 32) 0))) where
+    (m : IsMapped (λ n. n + 1) (bucket / 32 + 1) 33 before new_before)
+    (e : new ≡ copy_within items (at + get_or before (bucket / 32) 0 + 1) (start starts (bucket / 32 + 1) + get_or before (bucket / 32) 0) (at + get_or before (bucket / 32) 0)) where
+  abbrev home : ℕ
+  home = bucket / 32
+
   -- the list without the place
-  t : IsTaken items new (at + get_or before (bucket / 32) 0) (get_or starts 1024 0 + get_or before 32 0) taken
-  t = taken_out items new _ _ taken (bucket_inside before starts bucket at s small i).1 inside e
+  t : IsTaken items new (at + get_or before home 0) (start starts (home + 1) + get_or before home 0)
+  t = taken_out items new _ _ (omega (arith, (in_group before starts bucket at s small i).high)) (omega (arith, s.in_order (32 * (home + 1)) 1024 (omega arith) (omega arith), s.rising home 32 (omega arith) (omega arith))) e
 
   sooner : (p : ℕ) → bucket < p → p ≤ 1024 → get_or new_starts p 0 + 1 ≡ get_or starts p 0
   sooner p h k = omega (arith, l.following p h (omega (arith, s.buckets)), some p h k)
 
-  left_spaced : IsSpaced before new_starts
+  wider : (g : ℕ) → home < g → g ≤ 32 → get_or new_before g 0 ≡ get_or before g 0 + 1
+  wider g h k = m.inside g (omega arith) (omega arith)
+
+  same_slack : (g : ℕ) → g ≤ home → get_or new_before g 0 ≡ get_or before g 0
+  same_slack g h = m.before g (omega arith)
+
+  left_spaced : IsSpaced new_before new_starts
   left_spaced = record {
-    groups = s.groups;
+    groups = m.long ∙ s.groups;
     buckets = l.long ∙ s.buckets;
     first = l.before 0 (omega arith) ∙ s.first;
     in_order = λ a b h k.
@@ -394,19 +418,29 @@ module _ (items new before starts new_starts : List ℕ) (bucket at taken : ℕ)
             | inr d ↦ omega (arith, l.before a c, l.before b d, s.in_order a b h k)
           ]
         ];
-    rising = s.rising;
+    rising = λ g h a b.
+        elim (cases_lt home g) [
+          | inl c ↦ omega (arith, wider g c (omega arith), wider h (omega arith) b, s.rising g h a b)
+          | inr c ↦ elim (cases_lt home h) [
+            | inl d ↦ omega (arith, same_slack g c, wider h d b, s.rising g h a b)
+            | inr d ↦ omega (arith, same_slack g c, same_slack h d, s.rising g h a b)
+          ]
+        ];
   }
 
   abbrev old_places : List ℕ
   old_places = places_in items before starts
 
-  left_end : get_or new_starts 1024 0 + get_or before 32 0 + 1 ≡ get_or starts 1024 0 + get_or before 32 0
-  left_end = omega (arith, sooner 1024 small (omega arith))
+  fits : at < length old_places
+  fits = omega (arith, (bucket_inside before starts bucket at s small i).0, places_long items before starts)
+
+  left_end : get_or new_starts 1024 0 + get_or new_before 32 0 ≡ get_or starts 1024 0 + get_or before 32 0
+  left_end = omega (arith, sooner 1024 small (omega arith), wider 32 (omega arith) (omega arith))
 
   -- what stands before the place, and behind it
-  front_place : (k g : ℕ) → IsIn new_starts k g → k < at → get_or new (k + get_or before g 0) 0 ≡ closed taken (get_or (remove old_places at) k 0)
+  front_place : (k g : ℕ) → IsIn new_starts k g → k < at → get_or new (k + get_or new_before g 0) 0 ≡ get_or (remove old_places at) k 0
   front_place k g j h =
-      let up_to : g ≤ bucket / 32 = elim (cases_lt (bucket / 32) g) [
+      let up_to : g ≤ home = elim (cases_lt home g) [
         | inl c ↦ absurd (omega (arith, j.low, sooner (32 * g) (omega arith) (omega (arith, j.some)), i.to, s.in_order (bucket + 1) (32 * g) (omega arith) (omega (arith, j.some))))
         | inr c ↦ c
       ] in
@@ -416,11 +450,11 @@ module _ (items new before starts new_starts : List ℕ) (bucket at taken : ℕ)
         | inr c ↦ omega (arith, j.high, l.before (32 * (g + 1)) c)
       ] in
       let old : IsIn starts k g = record { some = j.some; low = low; high = high } in
-      let fits : at < length old_places = omega (arith, (bucket_inside before starts bucket at s small i).0, places_long items before starts) in
-      t.before (k + get_or before g 0) (omega (arith, s.rising g (bucket / 32) up_to (omega arith)))
-      ∙ ap (closed taken) (sym (place_is before starts s items k g old) ∙ sym (get_or-remove_below old_places at 0 k h fits))
+      ap (λ (q : ℕ). get_or new (k + q) 0) (same_slack g up_to)
+      ∙ (t.before (k + get_or before g 0) (omega (arith, s.rising g home up_to (omega arith)))
+      ∙ (sym (place_is before starts s items k g old) ∙ sym (get_or-remove_below old_places at 0 k h fits)))
 
-  back_place : (k g : ℕ) → IsIn new_starts k g → at ≤ k → get_or new (k + get_or before g 0) 0 ≡ closed taken (get_or (remove old_places at) k 0)
+  back_place : (k g : ℕ) → IsIn new_starts k g → at ≤ k → get_or new (k + get_or new_before g 0) 0 ≡ get_or (remove old_places at) k 0
   back_place k g j h =
       let above : bucket < 32 * (g + 1) = elim (cases_lt bucket (32 * (g + 1))) [
         | inl c ↦ c
@@ -432,98 +466,168 @@ module _ (items new before starts new_starts : List ℕ) (bucket at taken : ℕ)
       ] in
       let high : k + 1 < start starts (g + 1) = omega (arith, j.high, sooner (32 * (g + 1)) above (omega (arith, j.some))) in
       let old : IsIn starts (k + 1) g = record { some = j.some; low = low; high = high } in
-      let fits : at < length old_places = omega (arith, (bucket_inside before starts bucket at s small i).0, places_long items before starts) in
       let next : k + get_or before g 0 + 1 ≡ k + 1 + get_or before g 0 = omega arith in
-      let last : start starts (g + 1) ≤ get_or starts 1024 0 = s.in_order (32 * (g + 1)) 1024 (omega (arith, j.some)) (omega arith) in
-      t.moved (k + get_or before g 0) (omega (arith, s.rising (bucket / 32) g (omega arith) (omega (arith, j.some)))) (omega (arith, s.rising g 32 (omega (arith, j.some)) (omega arith)))
-      ∙ ap (closed taken) (ap (λ (q : ℕ). get_or items q 0) next ∙ (sym (place_is before starts s items (k + 1) g old) ∙ sym (get_or-remove_above old_places at 0 k h fits)))
+      let same : get_or new (k + get_or new_before g 0) 0 ≡ get_or items (k + get_or before g 0 + 1) 0 = elim (cases_lt home g) [
+        | inl c ↦
+            let further : k + get_or new_before g 0 ≡ k + get_or before g 0 + 1 = omega (arith, wider g c (omega (arith, j.some))) in
+            ap (λ (q : ℕ). get_or new q 0) further
+            ∙ t.following (k + get_or before g 0 + 1) (omega (arith, low, s.in_order (32 * (home + 1)) (32 * g) (omega arith) (omega (arith, j.some)), s.rising home g (omega arith) (omega (arith, j.some))))
+        | inr c ↦
+            let own_group : home ≡ g = omega arith in
+            ap (λ (q : ℕ). get_or new (k + q) 0) (same_slack g c)
+            ∙ t.moved (k + get_or before g 0) (omega (arith, ap (λ (f : ℕ). get_or before f 0) own_group)) (omega (arith, high, ap (λ (f : ℕ). get_or before f 0) own_group, ap (λ (f : ℕ). start starts (f + 1)) own_group))
+      ] in
+      same ∙ (ap (λ (q : ℕ). get_or items q 0) next ∙ (sym (place_is before starts s items (k + 1) g old) ∙ sym (get_or-remove_above old_places at 0 k h fits)))
 
-  left_places : places_in new before new_starts ≡ map (closed taken) (remove old_places at)
+  left_places : places_in new new_before new_starts ≡ remove old_places at
   left_places =
-      let fits : at < length old_places = omega (arith, (bucket_inside before starts bucket at s small i).0, places_long items before starts) in
-      let count : length (remove old_places at) ≡ get_or new_starts 1024 0 = omega (arith, length-remove old_places at fits, places_long items before starts, sooner 1024 small (omega arith)) in
-      places_are new before new_starts (map (closed taken) (remove old_places at)) left_spaced
-      (length-map (remove old_places at) (closed taken) ∙ count)
+      places_are new new_before new_starts (remove old_places at) left_spaced
+      (omega (arith, length-remove old_places at fits, places_long items before starts, sooner 1024 small (omega arith)))
       (λ k g j.
-      let inside : k < length (remove old_places at) = omega (arith, j.high, left_spaced.in_order (32 * (g + 1)) 1024 (omega (arith, j.some)) (omega arith)) in
-      let same : get_or new (k + get_or before g 0) 0 ≡ closed taken (get_or (remove old_places at) k 0) = elim (cases_lt k at) [
+      elim (cases_lt k at) [
         | inl h ↦ front_place k g j h
         | inr h ↦ back_place k g j h
-      ] in
-      same ∙ sym (get_or-map (closed taken) (remove old_places at) k 0 0 inside))
+      ])
 
-  left_offsets : drop (get_or new_starts 1024 0 + get_or before 32 0) new ≡ drop (get_or starts 1024 0 + get_or before 32 0) items
+  left_offsets : drop (get_or new_starts 1024 0 + get_or new_before 32 0) new ≡ drop (get_or starts 1024 0 + get_or before 32 0) items
   left_offsets =
-      same_rest new items _ _ (omega (arith, t.long, left_end)) (omega (arith, t.long, left_end)) (λ q.
-      let next : get_or new_starts 1024 0 + get_or before 32 0 + q + 1 ≡ get_or starts 1024 0 + get_or before 32 0 + q = omega (arith, left_end) in
-      t.following (get_or new_starts 1024 0 + get_or before 32 0 + q) (omega (arith, left_end)) ∙ ap (λ (p : ℕ). get_or items p 0) next)
+      let last : start starts (home + 1) ≤ get_or starts 1024 0 = s.in_order (32 * (home + 1)) 1024 (omega arith) (omega arith) in
+      let up : get_or before home 0 ≤ get_or before 32 0 = s.rising home 32 (omega arith) (omega arith) in
+      ap (λ (n : ℕ). drop n new) left_end
+      ∙ same_rest new items _ _ (omega (arith, t.long)) (omega (arith, t.long)) (λ q. t.following (get_or starts 1024 0 + get_or before 32 0 + q) (omega arith))
 
-  pub left_arranged : (len new_len capacity new_capacity group_slack most : ℕ) → IsArranged len capacity before starts group_slack most → new_len + 1 ≡ len → new_capacity ≡ capacity → IsArranged new_len new_capacity before new_starts group_slack most
-  left_arranged len new_len capacity new_capacity group_slack most a h k = record {
+  pub left_arranged : (len capacity new_len new_capacity given_up most : ℕ) → IsArranged len capacity before starts given_up most → new_len ≡ len → new_capacity ≡ capacity → IsArranged new_len new_capacity new_before new_starts given_up most
+  left_arranged len capacity new_len new_capacity given_up most a h k = record {
     spaced = left_spaced;
-    most = a.most;
-    little = a.little;
     narrow = a.narrow;
-    few = omega (arith, left_end, a.few);
+    few = omega (arith, sooner 1024 small (omega arith), a.few);
+    little = omega (arith, left_end, a.little);
     inside = omega (arith, left_end, a.inside);
     room = omega (arith, left_end, a.room);
   }
 
-  pub leaves : (most offsets new_offsets : ℕ) → new_offsets ≡ offsets → Leaves at taken bucket (view_of items before starts most offsets) (view_of new before new_starts most new_offsets)
-  leaves most offsets new_offsets h = record { places = left_places; bucket_starts = l; formal_offsets = left_offsets; room = ap (λ (n : ℕ). let r : IndexRoom = record { places = most; formal_offsets = n } in r) h }
+  -- where the places and the offsets were those of an older list, and the places that are left were closed up
+  pub leaves : (old_items old_before closed_items : List ℕ) (taken given_up most offsets new_offsets : ℕ) → places_in items before starts ≡ places_in old_items old_before starts → drop (get_or starts 1024 0 + get_or before 32 0) items ≡ drop (get_or starts 1024 0 + get_or old_before 32 0) old_items → closed_items ≡ map (closed taken) (take (get_or starts 1024 0 + get_or before 32 0) new) ++ drop (get_or starts 1024 0 + get_or before 32 0) new → new_offsets ≡ offsets → Leaves at taken bucket (view_of old_items old_before starts given_up most offsets) (view_of closed_items new_before new_starts given_up most new_offsets)
+  leaves old_items old_before closed_items taken given_up most offsets new_offsets f d g h =
+      let c = subst (λ (n : ℕ). IsClosed new closed_items n taken) (sym left_end) (closed_list new closed_items (get_or starts 1024 0 + get_or before 32 0) taken (omega (arith, t.long)) g) in
+      record {
+        places = closed_places new closed_items new_before new_starts taken left_spaced c ∙ ap (map (closed taken)) (left_places ∙ ap (λ (xs : List ℕ). remove xs at) f);
+        bucket_starts = l;
+        formal_offsets = ap (drop given_up) (c.following ∙ (left_offsets ∙ d));
+        room = ap (λ (n : ℕ). let r : IndexRoom = record { places = most; formal_offsets = n } in r) h;
+      }
+
+-- where each group got slack anew
+pub slack_arranged : (len capacity new_len new_capacity : ℕ) (before new_before starts : List ℕ) (given_up most : ℕ) → IsArranged len capacity before starts given_up most → IsSpaced new_before starts → ((n : ℕ) → get_or before 32 0 ≤ n → 32 * (get_or starts 1024 0 / 256 + 4) ≤ n → get_or new_before 32 0 ≤ n) → new_len + get_or before 32 0 ≡ len + get_or new_before 32 0 → new_capacity ≡ capacity → IsArranged new_len new_capacity new_before starts given_up most
+slack_arranged len capacity new_len new_capacity before new_before starts given_up most a s m h k = record {
+  spaced = s;
+  narrow = a.narrow;
+  few = a.few;
+  little = omega (arith, a.few, a.little, m (places_room most - get_or starts 1024 0) (omega (arith, a.little)) (omega (arith, a.few)));
+  inside = omega (arith, a.inside);
+  room = omega (arith, a.room);
+}
 
 -- Groups that get slack anew.
 
--- so far none was moved
-pub none_moved : (from to starts items : List ℕ) → AreMoved from to starts 32 items items
-none_moved from to starts items = record { before = λ p h. refl; places = λ g k a b c d. absurd (omega arith); following = λ p h. refl }
+-- the places of so many groups were moved to the front
+pub record AreGathered (items before starts : List ℕ) (group : ℕ) (now : List ℕ) : Type 0 where
+  pub places : (k : ℕ) → k < start starts group → get_or now k 0 ≡ get_or (places_in items before starts) k 0
+  pub following : (p : ℕ) → start starts group ≤ p → get_or now p 0 ≡ get_or items p 0
+
+pub none_gathered : (items before starts : List ℕ) → IsSpaced before starts → AreGathered items before starts 0 items
+none_gathered items before starts s = record { places = λ k h. absurd (omega (arith, s.first)); following = λ p h. refl }
 
 -- one group more
-pub one_moved : (from to starts items now next : List ℕ) (n m : ℕ) → IsSpaced from starts → IsSpaced to starts → ((g : ℕ) → g ≤ 32 → get_or from g 0 ≤ get_or to g 0) → n ≡ m + 1 → n ≤ 32 → get_or starts 1024 0 + get_or to 32 0 ≤ length now → AreMoved from to starts n items now → next ≡ copy_within now (get_or starts (32 * m) 0 + get_or from m 0) (get_or starts (32 * n) 0 + get_or from m 0) (get_or starts (32 * m) 0 + get_or to m 0) → AreMoved from to starts m items next
-one_moved from to starts items now next n m s t more e h l a k =
+module _ (items before starts now next : List ℕ) (n : ℕ) (s : IsSpaced before starts) (h : n < 32) (a : AreGathered items before starts n now) where
+  in_next : (k : ℕ) → start starts n ≤ k → k < start starts (n + 1) → get_or now (k + get_or before n 0) 0 ≡ get_or (places_in items before starts) k 0
+  in_next k low high = a.following (k + get_or before n 0) (omega arith) ∙ sym (place_is before starts s items k n (record { some = h; low = low; high = high }))
+
+  pub one_gathered : get_or starts 1024 0 + get_or before 32 0 ≤ length now → next ≡ copy_within now (start starts n + get_or before n 0) (start starts (n + 1) + get_or before n 0) (start starts n) → AreGathered items before starts (n + 1) next
+  one_gathered l e =
+      let o : start starts n ≤ start starts (n + 1) = s.in_order (32 * n) (32 * (n + 1)) (omega arith) (omega arith) in
+      let c = copied now (start starts n + get_or before n 0) (start starts (n + 1) + get_or before n 0) (start starts n) (omega arith) (omega (arith, s.in_order (32 * (n + 1)) 1024 (omega arith) (omega arith), s.rising n 32 (omega arith) (omega arith))) (omega (arith, s.in_order (32 * (n + 1)) 1024 (omega arith) (omega arith))) in
+      let at : (p : ℕ) → get_or next p 0 ≡ get_or (copy_within now (start starts n + get_or before n 0) (start starts (n + 1) + get_or before n 0) (start starts n)) p 0 = λ p. ap (λ (xs : List ℕ). get_or xs p 0) e in
+      record {
+        places = λ k g.
+            elim (cases_lt k (start starts n)) [
+              | inl f ↦ at k ∙ (c.before k f ∙ a.places k f)
+              | inr f ↦
+                  let same : start starts n + get_or before n 0 + (k - start starts n) ≡ k + get_or before n 0 = omega arith in
+                  at k ∙ (c.inside k f (omega arith) ∙ (ap (λ (q : ℕ). get_or now q 0) same ∙ in_next k f g))
+            ];
+        following = λ p g. at p ∙ (c.following p (omega arith) ∙ a.following p (omega arith));
+      }
+
+  -- which lies at the front already
+  pub one_stays : get_or before n 0 ≡ 0 → AreGathered items before starts (n + 1) now
+  one_stays e = record {
+    places = λ k g.
+        elim (cases_lt k (start starts n)) [
+          | inl f ↦ a.places k f
+          | inr f ↦ let same : k ≡ k + get_or before n 0 = omega arith in ap (λ (q : ℕ). get_or now q 0) same ∙ in_next k f g
+        ];
+    following = λ p g. a.following p (omega (arith, s.in_order (32 * n) (32 * (n + 1)) (omega arith) (omega arith)));
+  }
+
+pub all_gathered : (items before starts now : List ℕ) → length now ≡ length items → get_or starts 1024 0 ≤ length items → AreGathered items before starts 32 now → (take (get_or starts 1024 0) now ≡ places_in items before starts) × (drop (get_or starts 1024 0) now ≡ drop (get_or starts 1024 0) items)
+all_gathered items before starts now e l a =
+    let long : length (take (get_or starts 1024 0) now) ≡ get_or starts 1024 0 = length-take-le (get_or starts 1024 0) now (omega arith) in (
+      ext_get_or 0 (take (get_or starts 1024 0) now) (places_in items before starts) (long ∙ sym (places_long items before starts)) (λ k h.
+          let less : k < get_or starts 1024 0 = omega arith in get_or-take (get_or starts 1024 0) now k 0 less ∙ a.places k less),
+      same_rest now items _ _ (omega arith) (omega arith) (λ p. a.following (get_or starts 1024 0 + p) (omega arith)),
+    )
+
+-- so far none was moved
+pub none_moved : (to starts items : List ℕ) → AreMoved to starts 32 items items
+none_moved to starts items = record { before = λ p h. refl; places = λ g k a b c d. absurd (omega arith); following = λ p h. refl }
+
+-- one group more
+pub one_moved : (to starts items now next : List ℕ) (n m : ℕ) → IsSpaced to starts → n ≡ m + 1 → n ≤ 32 → get_or starts 1024 0 + get_or to 32 0 ≤ length now → AreMoved to starts n items now → next ≡ copy_within now (start starts m) (start starts n) (start starts m + get_or to m 0) → AreMoved to starts m items next
+one_moved to starts items now next n m t e h l a k =
     let end : start starts n ≡ start starts (m + 1) = ap (start starts) e in
-    let o : start starts m ≤ start starts n = s.in_order (32 * m) (32 * n) (omega arith) (omega arith) in
-    let last : start starts n ≤ get_or starts 1024 0 = s.in_order (32 * n) 1024 (omega arith) (omega arith) in
-    let wider : get_or from m 0 ≤ get_or to m 0 = more m (omega arith) in
+    let o : start starts m ≤ start starts n = t.in_order (32 * m) (32 * n) (omega arith) (omega arith) in
+    let last : start starts n ≤ get_or starts 1024 0 = t.in_order (32 * n) 1024 (omega arith) (omega arith) in
     let up : get_or to m 0 ≤ get_or to 32 0 = t.rising m 32 (omega arith) (omega arith) in
-    let c = copied now (start starts m + get_or from m 0) (start starts n + get_or from m 0) (start starts m + get_or to m 0) (omega arith) (omega arith) (omega arith) in
-    let at : (p : ℕ) → get_or next p 0 ≡ get_or (copy_within now (start starts m + get_or from m 0) (start starts n + get_or from m 0) (start starts m + get_or to m 0)) p 0 = λ p. ap (λ (xs : List ℕ). get_or xs p 0) k in
+    let c = copied now (start starts m) (start starts n) (start starts m + get_or to m 0) (omega arith) (omega arith) (omega arith) in
+    let at : (p : ℕ) → get_or next p 0 ≡ get_or (copy_within now (start starts m) (start starts n) (start starts m + get_or to m 0)) p 0 = λ p. ap (λ (xs : List ℕ). get_or xs p 0) k in
     record {
-      before = λ p g. at p ∙ (c.before p (omega arith) ∙ a.before p (omega (arith, s.rising m n (omega arith) h)));
+      before = λ p g. at p ∙ (c.before p (omega arith) ∙ a.before p (omega arith));
       places = λ g k f i low high.
           elim (cases_lt m g) [
             | inl b ↦
                 at (k + get_or to g 0)
-                ∙ (c.following (k + get_or to g 0) (omega (arith, s.in_order (32 * n) (32 * g) (omega arith) (omega arith), t.rising m g (omega arith) (omega arith)))
+                ∙ (c.following (k + get_or to g 0) (omega (arith, t.in_order (32 * n) (32 * g) (omega arith) (omega arith), t.rising m g (omega arith) (omega arith)))
                 ∙ a.places g k (omega arith) i low high)
             | inr b ↦
                 let same : m ≡ g = omega arith in
-                let back : start starts m + get_or from m 0 + (k + get_or to m 0 - (start starts m + get_or to m 0)) ≡ k + get_or from m 0 = omega (arith, ap (start starts) same) in
-                let P : ℕ → Type 0 = λ q. get_or next (k + get_or to q 0) 0 ≡ get_or items (k + get_or from q 0) 0 in
+                let back : start starts m + (k + get_or to m 0 - (start starts m + get_or to m 0)) ≡ k = omega (arith, ap (start starts) same) in
+                let P : ℕ → Type 0 = λ q. get_or next (k + get_or to q 0) 0 ≡ get_or items k 0 in
                 subst P same (at (k + get_or to m 0)
                 ∙ (c.inside (k + get_or to m 0) (omega (arith, ap (start starts) same)) (omega (arith, end, ap (λ (q : ℕ). start starts (q + 1)) same))
                 ∙ (ap (λ (q : ℕ). get_or now q 0) back
-                ∙ a.before (k + get_or from m 0) (omega (arith, end, ap (λ (q : ℕ). start starts (q + 1)) same, s.rising m n (omega arith) h)))))
+                ∙ a.before k (omega (arith, end, ap (λ (q : ℕ). start starts (q + 1)) same)))))
           ];
       following = λ p g. at p ∙ (c.following p (omega arith) ∙ a.following p g);
     }
 
--- what stands behind a place moved so much to the back
-pub rest_moved : (xs longer moved : List ℕ) (len at by : ℕ) → at ≤ len → length xs ≡ len → take len longer ≡ xs → length longer ≡ len + by → moved ≡ copy_within longer at len (at + by) → (take at moved ≡ take at xs) × (drop (at + by) moved ≡ drop at xs)
-rest_moved xs longer moved len at by h n f l e =
-    let c = copied longer at len (at + by) h (omega arith) (omega arith) in
-    let long : length moved ≡ len + by = ap (length {A = ℕ}) e ∙ (c.long ∙ l) in
+-- what stands so far behind a place moved to where it stands so far behind it as another number says
+pub rest_moved : (xs longer moved : List ℕ) (len at from to : ℕ) → at + from ≤ len → length xs ≡ len → take len longer ≡ xs → length longer ≡ len + (to - from) → moved ≡ take (len - from + to) (copy_within longer (at + from) len (at + to)) → (take at moved ≡ take at xs) × (drop (at + to) moved ≡ drop (at + from) xs)
+rest_moved xs longer moved len at from to h n f l e =
+    let both : List ℕ = copy_within longer (at + from) len (at + to) in
+    let c = copied longer (at + from) len (at + to) h (omega arith) (omega arith) in
+    let long : length moved ≡ len - from + to = ap (length {A = ℕ}) e ∙ length-take-le (len - from + to) both (omega (arith, c.long)) in
     let same : (p : ℕ) → p < len → get_or longer p 0 ≡ get_or xs p 0 = λ p k. sym (get_or-take len longer p 0 k) ∙ ap (λ (ys : List ℕ). get_or ys p 0) f in
-    let into : (p : ℕ) → get_or moved p 0 ≡ get_or (copy_within longer at len (at + by)) p 0 = λ p. ap (λ (ys : List ℕ). get_or ys p 0) e in (
+    let into : (p : ℕ) → p < len - from + to → get_or moved p 0 ≡ get_or both p 0 = λ p k. ap (λ (ys : List ℕ). get_or ys p 0) e ∙ get_or-take (len - from + to) both p 0 k in (
       ext_get_or 0 (take at moved) (take at xs) (length-take-le at moved (omega arith) ∙ sym (length-take-le at xs (omega arith))) (λ k g.
           let less : k < at = omega (arith, length-take-le at moved (omega arith)) in
-          get_or-take at moved k 0 less ∙ (into k ∙ (c.before k (omega arith) ∙ (same k (omega arith) ∙ sym (get_or-take at xs k 0 less))))),
-      same_rest moved xs (at + by) at (omega arith) (omega arith) (λ p.
-          elim (cases_lt (at + p) len) [
+          get_or-take at moved k 0 less ∙ (into k (omega arith) ∙ (c.before k (omega arith) ∙ (same k (omega arith) ∙ sym (get_or-take at xs k 0 less))))),
+      same_rest moved xs (at + to) (at + from) (omega arith) (omega arith) (λ p.
+          elim (cases_lt (at + from + p) len) [
             | inl k ↦
-                let back : at + (at + by + p - (at + by)) ≡ at + p = omega arith in
-                into (at + by + p) ∙ (c.inside (at + by + p) (omega arith) (omega arith) ∙ (ap (λ (q : ℕ). get_or longer q 0) back ∙ same (at + p) k))
-            | inr k ↦ get_or_past moved (at + by + p) 0 (omega arith) ∙ sym (get_or_past xs (at + p) 0 (omega arith))
+                let back : at + from + (at + to + p - (at + to)) ≡ at + from + p = omega arith in
+                into (at + to + p) (omega arith) ∙ (c.inside (at + to + p) (omega arith) (omega arith) ∙ (ap (λ (q : ℕ). get_or longer q 0) back ∙ same (at + from + p) k))
+            | inr k ↦ get_or_past moved (at + to + p) 0 (omega arith) ∙ sym (get_or_past xs (at + from + p) 0 (omega arith))
           ]),
     )
 
@@ -538,27 +642,29 @@ even_spaced before even starts slack s n e = record {
 }
 
 -- the list before what is behind its places and slack is as it was, and so are its places
-pub same_places : (items new before starts : List ℕ) → IsSpaced before starts → ((p : ℕ) → p < get_or starts 1024 0 + get_or before 32 0 → get_or new p 0 ≡ get_or items p 0) → places_in new before starts ≡ places_in items before starts
-same_places items new before starts s h =
+pub same_places : (items new before starts : List ℕ) (front : ℕ) → IsSpaced before starts → get_or starts 1024 0 + get_or before 32 0 ≤ front → take front new ≡ take front items → places_in new before starts ≡ places_in items before starts
+same_places items new before starts front s h e =
     places_are new before starts (places_in items before starts) s (places_long items before starts) (λ k g i.
     let last : start starts (g + 1) ≤ get_or starts 1024 0 = s.in_order (32 * (g + 1)) 1024 (omega (arith, i.some)) (omega arith) in
-    h (k + get_or before g 0) (omega (arith, i.high, s.rising g 32 (omega (arith, i.some)) (omega arith))) ∙ sym (place_is before starts s items k g i))
+    let inside : k + get_or before g 0 < front = omega (arith, i.high, s.rising g 32 (omega (arith, i.some)) (omega arith)) in
+    sym (get_or-take front new (k + get_or before g 0) 0 inside)
+    ∙ (ap (λ (xs : List ℕ). get_or xs (k + get_or before g 0) 0) e
+    ∙ (get_or-take front items (k + get_or before g 0) 0 inside ∙ sym (place_is before starts s items k g i))))
 
-pub spread_places : (items longer moved before even starts : List ℕ) → IsSpaced before starts → IsSpaced even starts → take (get_or starts 1024 0 + get_or before 32 0) longer ≡ take (get_or starts 1024 0 + get_or before 32 0) items → AreMoved before even starts 0 longer moved → places_in moved even starts ≡ places_in items before starts
-spread_places items longer moved before even starts s t f a =
-    places_are moved even starts (places_in items before starts) t (places_long items before starts) (λ k g i.
-    let last : start starts (g + 1) ≤ get_or starts 1024 0 = s.in_order (32 * (g + 1)) 1024 (omega (arith, i.some)) (omega arith) in
-    let inside : k + get_or before g 0 < get_or starts 1024 0 + get_or before 32 0 = omega (arith, i.high, s.rising g 32 (omega (arith, i.some)) (omega arith)) in
-    a.places g k (omega arith) i.some i.low i.high
-    ∙ (sym (get_or-take _ longer (k + get_or before g 0) 0 inside)
-    ∙ (ap (λ (xs : List ℕ). get_or xs (k + get_or before g 0) 0) f
-    ∙ (get_or-take _ items (k + get_or before g 0) 0 inside ∙ sym (place_is before starts s items k g i)))))
+-- the lists of a spread: with its places gathered, with what is behind them moved, and with the groups moved
+module _ (items gathered longer moved before even starts : List ℕ) (t : IsSpaced even starts) (a : AreMoved even starts 0 longer moved) where
+  pub spread_places : take (get_or starts 1024 0) gathered ≡ places_in items before starts → take (get_or starts 1024 0) longer ≡ take (get_or starts 1024 0) gathered → places_in moved even starts ≡ places_in items before starts
+  spread_places g f =
+      places_are moved even starts (places_in items before starts) t (places_long items before starts) (λ k h i.
+      let last : start starts (h + 1) ≤ get_or starts 1024 0 = t.in_order (32 * (h + 1)) 1024 (omega (arith, i.some)) (omega arith) in
+      let inside : k < get_or starts 1024 0 = omega (arith, i.high) in
+      a.places h k (omega arith) i.some i.low i.high ∙ (sym (get_or-take _ longer k 0 inside) ∙ ap (λ (xs : List ℕ). get_or xs k 0) (f ∙ g)))
 
-pub spread_offsets : (items longer moved before even starts : List ℕ) (by : ℕ) → get_or before 32 0 + by ≡ get_or even 32 0 → length moved ≡ length longer → get_or starts 1024 0 + get_or even 32 0 ≤ length moved → drop (get_or starts 1024 0 + get_or before 32 0 + by) longer ≡ drop (get_or starts 1024 0 + get_or before 32 0) items → AreMoved before even starts 0 longer moved → drop (get_or starts 1024 0 + get_or even 32 0) moved ≡ drop (get_or starts 1024 0 + get_or before 32 0) items
-spread_offsets items longer moved before even starts by e n l r a =
-    let same : get_or starts 1024 0 + get_or even 32 0 ≡ get_or starts 1024 0 + get_or before 32 0 + by = omega arith in
-    same_rest moved longer _ _ (omega arith) l (λ p. a.following (get_or starts 1024 0 + get_or even 32 0 + p) (omega arith))
-    ∙ (ap (λ (q : ℕ). drop q longer) same ∙ r)
+  pub spread_offsets : length moved ≡ length longer → get_or starts 1024 0 + get_or even 32 0 ≤ length moved → drop (get_or starts 1024 0) gathered ≡ drop (get_or starts 1024 0) items → drop (get_or starts 1024 0 + get_or even 32 0) longer ≡ drop (get_or starts 1024 0 + get_or before 32 0) gathered → drop (get_or starts 1024 0 + get_or even 32 0) moved ≡ drop (get_or starts 1024 0 + get_or before 32 0) items
+  spread_offsets n l g r =
+      same_rest moved longer _ _ (omega arith) l (λ p. a.following (get_or starts 1024 0 + get_or even 32 0 + p) (omega arith))
+      ∙ (r
+      ∙ (sym (drop-drop (get_or before 32 0) (get_or starts 1024 0) gathered) ∙ (ap (drop (get_or before 32 0)) g ∙ drop-drop (get_or before 32 0) (get_or starts 1024 0) items)))
 
 -- Offsets that come or go.
 
@@ -571,28 +677,19 @@ behind xs ys n i h =
 pub cut_behind : (xs : List ℕ) (n i j : ℕ) → n + i ≤ length xs → drop n (remove_range xs (n + i) (n + j)) ≡ remove_range (drop n xs) i j
 cut_behind xs n i j h = behind xs (drop (n + j) xs) n i h ∙ ap (λ (l : List ℕ). take i (drop n xs) ++ l) (sym (drop-drop j n xs))
 
-pub cut_before : (xs : List ℕ) (n i j p : ℕ) → n + i ≤ length xs → p < n → get_or (remove_range xs (n + i) (n + j)) p 0 ≡ get_or xs p 0
-cut_before xs n i j p h l =
-    get_or_append_left (take (n + i) xs) (drop (n + j) xs) 0 p (omega (arith, length-take-le (n + i) xs h)) ∙ get_or-take (n + i) xs p 0 (omega arith)
+pub cut_before : (xs : List ℕ) (i j : ℕ) → i ≤ length xs → take i (remove_range xs i j) ≡ take i xs
+cut_before xs i j h = take_at (take i xs) (drop j xs) i (length-take-le i xs h)
 
--- the list that is left, as Rattle writes it
-pub taken_items : (xs removed am changed : List ℕ) (len end at taken : ℕ) → at < end → end ≤ length xs → removed ≡ remove xs at → length removed ≡ len → am ≡ removed → changed ≡ map (closed taken) (mid_of 0 (end - 1 - 0) am) → take len (put_mid 0 (end - 1 - 0) am changed ++ drop (length (put_mid 0 (end - 1 - 0) am changed)) removed) ≡ map (closed taken) (take (end - 1) (remove xs at)) ++ drop (end - 1) (remove xs at)
-taken_items xs removed am changed len end at taken h l r n a g =
-    let k : end - 1 - 0 ≡ end - 1 = omega arith in
-    let left : List ℕ = remove xs at in
-    let same : am ≡ left = a ∙ r in
-    let kept : List ℕ = take (end - 1) left in
-    let moved : changed ≡ map (closed taken) kept = g ∙ (ap (λ (i : ℕ). map (closed taken) (take i am)) k ∙ ap (λ (ys : List ℕ). map (closed taken) (take (end - 1) ys)) same) in
-    let whole : put_mid 0 (end - 1 - 0) am changed ≡ map (closed taken) kept ++ drop (end - 1) left =
-    ap (λ (ys : List ℕ). ys ++ drop (end - 1 - 0) am) moved ∙ (ap (λ (i : ℕ). map (closed taken) kept ++ drop i am) k ∙ ap (λ (ys : List ℕ). map (closed taken) kept ++ drop (end - 1) ys) same) in
-    let fewer : length left + 1 ≡ length xs = omega (arith, length-remove xs at (omega arith)) in
-    let size : length (put_mid 0 (end - 1 - 0) am changed) ≡ len =
-    omega (arith, ap (length {A = ℕ}) whole, length-append (map (closed taken) kept) (drop (end - 1) left), length-map kept (closed taken), length-take-le (end - 1) left (omega arith), length-drop (end - 1) left, n, ap (length {A = ℕ}) r) in
-    take_at (put_mid 0 (end - 1 - 0) am changed) _ len size ∙ whole
+-- those before were moved to the back
+pub covered_behind : (xs new : List ℕ) (n i j : ℕ) → i ≤ j → drop (n + (j - i)) new ≡ slice_range xs n (n + i) ++ drop (n + i + (j - i)) xs → drop (n + (j - i)) new ≡ remove_range (drop n xs) i j
+covered_behind xs new n i j h e =
+    let count : n + i - n ≡ i = omega arith in
+    let back : n + i + (j - i) ≡ n + j = omega arith in
+    e ∙ (ap (λ (m : ℕ). slice_range xs n (n + i) ++ drop m xs) back ∙ (ap (λ (m : ℕ). take m (drop n xs) ++ drop (n + j) xs) count ∙ ap (λ (l : List ℕ). take i (drop n xs) ++ l) (sym (drop-drop j n xs))))
 
 -- an index of which only the list was changed
-pub arranged : (items new before starts : List ℕ) (formal_offsets : List ℕ) (most offsets new_offsets : ℕ) → places_in new before starts ≡ places_in items before starts → drop (get_or starts 1024 0 + get_or before 32 0) new ≡ formal_offsets → new_offsets ≡ offsets → view_of new before starts most new_offsets ≡ record (view_of items before starts most offsets) { formal_offsets = formal_offsets }
-arranged items new before starts formal_offsets most offsets new_offsets p q r = rw (p, q, r) refl
+pub arranged : (items new before starts : List ℕ) (formal_offsets : List ℕ) (given_up new_given_up most offsets new_offsets : ℕ) → places_in new before starts ≡ places_in items before starts → drop new_given_up (drop (get_or starts 1024 0 + get_or before 32 0) new) ≡ formal_offsets → new_offsets ≡ offsets → view_of new before starts new_given_up most new_offsets ≡ record (view_of items before starts given_up most offsets) { formal_offsets = formal_offsets }
+arranged items new before starts formal_offsets given_up new_given_up most offsets new_offsets p q r = rw (p, q, r) refl
 
 -- an index of which nothing was cut
 pub uncut : (v : IndexView) (from to : ℕ) → from ≡ to → v ≡ record v { formal_offsets = remove_range v.formal_offsets from to }
@@ -613,21 +710,13 @@ module _ (even starts : List ℕ) (slack : ℕ) (n : length even ≡ 33) (e : (g
     rising = λ g h a b. omega (arith, e g (omega arith), e h b, mul-le slack g slack h (omega arith) a);
   }
 
-  pub nothing_arranged : (len capacity most : ℕ) → slack ≤ most / 256 + 4 → most < 2 ^ 31 → len ≡ 32 * slack → places_room most ≤ capacity → IsArranged len capacity even starts slack most
+  pub nothing_arranged : (len capacity most : ℕ) → slack ≤ most / 256 + 4 → most < 2 ^ 31 → len ≡ 32 * slack → places_room most ≤ capacity → IsArranged len capacity even starts 0 most
   nothing_arranged len capacity most few m l h =
       let last : get_or starts 1024 0 ≡ 0 = zero_starts starts 1024 z (omega arith) in
       let all : get_or even 32 0 ≡ slack * 32 = e 32 (omega arith) in
-      record {
-        spaced = nothing_spaced;
-        most = λ g a. omega (arith, e g a);
-        little = few;
-        narrow = m;
-        few = omega arith;
-        inside = omega arith;
-        room = omega arith;
-      }
+      record { spaced = nothing_spaced; narrow = m; few = omega arith; little = omega arith; inside = omega arith; room = omega arith }
 
-  pub nothing_in : (items : List ℕ) (most offsets kept : ℕ) → length items ≡ 32 * slack → offsets ≡ kept → view_of items even starts most offsets ≡ empty_index (record { places = most; formal_offsets = kept })
+  pub nothing_in : (items : List ℕ) (most offsets kept : ℕ) → length items ≡ 32 * slack → offsets ≡ kept → view_of items even starts 0 most offsets ≡ empty_index (record { places = most; formal_offsets = kept })
   nothing_in items most offsets kept l r =
       let last : get_or starts 1024 0 ≡ 0 = zero_starts starts 1024 z (omega arith) in
       let all : get_or even 32 0 ≡ slack * 32 = e 32 (omega arith) in

@@ -1,5 +1,5 @@
 -- Where the buckets of an index begin, in groups: as one list, and once a group's own starts and those of the groups behind it moved.
-use Rattle.std.proofs.Common.{◌≡◌, ℕ, ◌+◌, ◌-◌, ◌*◌, ◌/◌, ◌<◌, ◌≤◌, List, ◌++◌, All, length, map, take, drop, get_or, replicate, ap, sym, ◌∙◌, arith, inl, inr, subst, length-append, length-drop, length-take-le, get_or-drop, get_or-take}
+use Rattle.std.proofs.Common.{◌≡◌, ℕ, ◌+◌, ◌-◌, ◌*◌, ◌/◌, ◌^◌, ◌<◌, ◌≤◌, List, ◌++◌, All, length, map, take, drop, get_or, replicate, ap, sym, ◌∙◌, arith, inl, inr, subst, length-append, length-drop, length-take-le, get_or-drop, get_or-take}
 use Rattle.std.specs.List.{slice_range}
 use Rattle.std.proofs.lemmas.Bool.{cases_lt}
 use Rattle.std.proofs.lemmas.List.{ext_get_or, get_or-append_right, get_or-map, get_or-replicate, get_or_append_left, get_or_default, get_or_past, length-map, length-replicate}
@@ -117,13 +117,13 @@ module _ (bucket : ℕ) (groups within : List ℕ) (h : bucket < 1024) (g : IsGr
   abbrev group : ℕ
   group = bucket / 32
 
-  pub few_within : All (λ s. s ≤ 65536) (starts_in groups within) → All (λ s. s ≤ 65536) (slice_range within (bucket + 1) (32 * (group + 1)))
-  few_within f = part_all (λ s. s ≤ 65536) (bucket + 1) (32 * (group + 1)) within (omega (arith, g.buckets)) (λ p a b.
+  pub few_within : All (λ s. s ≤ 65536) (starts_in groups within) → All (λ s. s + 1 < 2 ^ 32) (slice_range within (bucket + 1) (32 * (group + 1)))
+  few_within f = part_all (λ s. s + 1 < 2 ^ 32) (bucket + 1) (32 * (group + 1)) within (omega (arith, g.buckets)) (λ p a b.
       let l : p < length within = omega (arith, g.buckets) in
       omega (arith, start_is groups within p l, f p 0 (omega (arith, starts_long groups within))))
 
-  pub few_groups : All (λ s. s ≤ 65536) (starts_in groups within) → All (λ s. s ≤ 65536) (slice_range groups (group + 1) 33)
-  few_groups f = part_all (λ s. s ≤ 65536) (group + 1) 33 groups (omega (arith, g.groups)) (λ p a b.
+  pub few_groups : All (λ s. s ≤ 65536) (starts_in groups within) → All (λ s. s + 1 < 2 ^ 32) (slice_range groups (group + 1) 33)
+  few_groups f = part_all (λ s. s + 1 < 2 ^ 32) (group + 1) 33 groups (omega (arith, g.groups)) (λ p a b.
       let l : 32 * p < length within = omega (arith, g.buckets) in
       let same : 32 * p / 32 ≡ p = omega arith in
       omega (arith, start_is groups within (32 * p) l, ap (λ (q : ℕ). get_or groups q 0) same, f (32 * p) 0 (omega (arith, starts_long groups within))))

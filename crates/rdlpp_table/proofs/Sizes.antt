@@ -149,6 +149,10 @@ pub offsets_len_of : (start formal_offsets : ℕ) (m : Macro) → offsets_len (e
 unfolding offsets_len entry_of list_size macro_offsets
 offsets_len_of start formal_offsets m = grind (arith, count_of, length_offsets_of)
 
+-- formals have at most two offsets each
+pub two_offsets : (fs : List Formal) → length (offsets_of fs) ≤ 2 * length fs
+two_offsets fs = grind (arith, cases_Bool, length_offsets_of, cond-true, cond-false)
+
 -- formals have at most two offsets for eight bytes
 pub few_offsets_of : (fs : List Formal) → length (offsets_of fs) ≤ 2 * (sum_by formal_size fs / 8)
 unfolding has_offsets

@@ -56,23 +56,23 @@ pub record IsSpaced (slack_before bucket_starts : List ℕ) : Type 0 where
   pub in_order : (p q : ℕ) → p ≤ q → q ≤ 1024 → slice_index bucket_starts p ≤ slice_index bucket_starts q
   pub rising : (g h : ℕ) → g ≤ h → h ≤ 32 → slice_index slack_before g ≤ slice_index slack_before h
 
--- the places of the groups from one on lie behind more slack than before, and what stands before those and behind all stands there still
-pub record AreMoved (from to bucket_starts : List ℕ) (group : ℕ) (items moved : List ℕ) : Type 0 where
-  pub before : (p : ℕ) → p < slice_index bucket_starts (32 * group) + slice_index from group → slice_index moved p ≡ slice_index items p
-  pub places : (g k : ℕ) → group ≤ g → g < 32 → slice_index bucket_starts (32 * g) ≤ k → k < slice_index bucket_starts (32 * (g + 1)) → slice_index moved (k + slice_index to g) ≡ slice_index items (k + slice_index from g)
-  pub following : (p : ℕ) → slice_index bucket_starts 1024 + slice_index to 32 ≤ p → slice_index moved p ≡ slice_index items p
+-- the places of the groups from one on lie behind slack, where none lay before them, and what stands before those and behind all stands
+-- there still
+pub record AreMoved (slack_before bucket_starts : List ℕ) (group : ℕ) (items moved : List ℕ) : Type 0 where
+  pub before : (p : ℕ) → p < slice_index bucket_starts (32 * group) → slice_index moved p ≡ slice_index items p
+  pub places : (g k : ℕ) → group ≤ g → g < 32 → slice_index bucket_starts (32 * g) ≤ k → k < slice_index bucket_starts (32 * (g + 1)) → slice_index moved (k + slice_index slack_before g) ≡ slice_index items k
+  pub following : (p : ℕ) → slice_index bucket_starts 1024 + slice_index slack_before 32 ≤ p → slice_index moved p ≡ slice_index items p
 
 -- how many items the list of an index has room for beside the offsets: for so many places, and for the most slack
 abbrev pub places_room : ℕ → ℕ
 places_room most_places = most_places + 32 * (most_places / 256 + 4)
 
--- what holds of the list of an index, with its places, the slack of their groups and the offsets: there is room for all beside the
--- offsets
-pub record IsArranged (len capacity : ℕ) (slack_before bucket_starts : List ℕ) (group_slack most_places : ℕ) : Type 0 where
+-- what holds of the list of an index, with its places, the slack of their groups and the offsets, of which so many are given up: there
+-- is room for all beside the offsets
+pub record IsArranged (len capacity : ℕ) (slack_before bucket_starts : List ℕ) (given_up most_places : ℕ) : Type 0 where
   pub spaced : IsSpaced slack_before bucket_starts
-  pub most : (g : ℕ) → g ≤ 32 → slice_index slack_before g ≤ group_slack * g
-  pub little : group_slack ≤ most_places / 256 + 4
   pub narrow : most_places < 2 ^ 31
   pub few : slice_index bucket_starts 1024 ≤ most_places
-  pub inside : slice_index bucket_starts 1024 + slice_index slack_before 32 ≤ len
+  pub little : slice_index bucket_starts 1024 + slice_index slack_before 32 ≤ places_room most_places
+  pub inside : slice_index bucket_starts 1024 + slice_index slack_before 32 + given_up ≤ len
   pub room : len + places_room most_places ≤ slice_index bucket_starts 1024 + slice_index slack_before 32 + capacity

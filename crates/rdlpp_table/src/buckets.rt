@@ -41,8 +41,8 @@ pub(crate) fn bucket_of(name: &[u8]) -> usize
 }
 
 // These numbers are each one more.
-fn move_up(starts: &mut [u32])
-    requires { All (λ s. s ≤ 65536) starts.old }
+pub(crate) fn move_up(starts: &mut [u32])
+    requires { All (λ s. s + 1 < 2 ^ 32) starts.old }
     ensures { starts.new ≡ map (λ s. s + 1) starts.old }
 {
     for start in starts.iter_mut() {

@@ -12,7 +12,7 @@ pub(crate) struct Entry {
     pub(crate) start: u32,
     pub(crate) list_len: u32,
     pub(crate) body_len: u32,
-    // Where its offsets begin, counted with those that are given up.
+    // Where its offsets begin, counted with those of entries that are given up.
     pub(crate) formal_offsets: u32,
     pub(crate) name_len: u8,
     // How many formals it has, where it has a list.

@@ -1,24 +1,25 @@
 // The index of a table: the places of its entries, sorted by the buckets in which their names stand, and then by name. A table has
 // at most 65,536 macros, so that two bytes are enough for a place. In one list lie the places, with slack behind those of each group
 // of buckets, and behind all of them the offsets of the macros. A definition moves those places of its own group that stand behind
-// its own; where its group has no slack left, all groups get slack anew. A removal always moves what is behind.
+// its own, and a removal does too, so that its group has more slack then; where a group has none left, or all have much, each gets slack
+// anew. Offsets that go near the front are given up there.
 ghost use Rattle.std.specs.Prelude.{◌≡◌, ℕ, ◌+◌, ◌<◌, ◌≤◌, ◌^◌, ◌*◌, ◌/◌, ◌-◌, ◌++◌, All, IfOk, drop, length, map, remove, set, slice_index, take, true, vec_capacity, vec_len};
 ghost use Rattle.std.specs.List.{copy_within, flat_map, list_all, remove_range};
 ghost use Rattle.rdlpp_table.specs.Entries.{AreWithin};
 ghost use Rattle.rdlpp_table.specs.FormalOffsets.{offsets_of};
 ghost use Rattle.rdlpp_table.specs.Index.{bucket_of, closed, names_of, IsCounted, IsFound, IsIndexed};
-ghost use Rattle.rdlpp_table.specs.IndexView.{empty_index, places_in, AreMoved, Enters, IsInBucket, IsSpaced, Leaves};
+ghost use Rattle.rdlpp_table.specs.IndexView.{empty_index, places_in, places_room, AreMoved, Enters, IsInBucket, IsSpaced, Leaves};
 ghost use Rattle.rdlpp_table.specs.Store.{formals_read, is_plain_formal, live, macros_in, IsStored};
 ghost use Rattle.rdlpp_table.specs.Table.{formal_bytes};
 ghost use Rattle.rdlpp_table.specs.View.{place_named};
 
-use crate::buckets::{BucketStarts, GROUP, bucket_of, move_down};
+use crate::buckets::{BucketStarts, GROUP, bucket_of, move_down, move_up};
 use crate::entry::{Entry, name_in};
 use crate::fault::NoMemory;
 use crate::given_up::{GivenUp, live};
 use crate::lookup::{LookupKey, Steps};
 use crate::offsets::push_offsets;
-use crate::removal::cut;
+use crate::removal::{cover, cut};
 use std::alloc::Global;
 use std::cmp::Ordering;
 use std::marker::Model;
@@ -34,8 +35,8 @@ pub(crate) struct Index {
     order: Vec<u16>,
     // How much slack lies before the places of each group, and before the offsets.
     slack_before: [u32; 33],
-    // How much slack each group has at most.
-    group_slack: usize,
+    // How many offsets at the front of the offsets are given up.
+    given_up: usize,
     // How many places there are at most.
     most_places: usize,
     bucket_starts: BucketStarts,
@@ -50,11 +51,11 @@ impl Model for Index {
     ghost view = { λ x. record {
       places = places_in x.order.items x.slack_before x.bucket_starts;
       bucket_starts = x.bucket_starts;
-      formal_offsets = drop (slice_index x.bucket_starts 1024 + slice_index x.slack_before 32) x.order.items;
+      formal_offsets = drop x.given_up (drop (slice_index x.bucket_starts 1024 + slice_index x.slack_before 32) x.order.items);
       room = record { places = x.most_places; formal_offsets = vec_capacity x.order - places_room x.most_places };
     } };
 
-    ghost invariant = { λ x. IsArranged (vec_len x.order) (vec_capacity x.order) x.slack_before x.bucket_starts x.group_slack x.most_places };
+    ghost invariant = { λ x. IsArranged (vec_len x.order) (vec_capacity x.order) x.slack_before x.bucket_starts x.given_up x.most_places };
 }
 
 // The place in the index of the entry of a name, or the place where it would stand, by halving
@@ -154,18 +155,28 @@ fn close_up(places: &mut [u16], taken: u16)
     }
 }
 
-// Takes a place out of a list, of which all before an end are places or slack, and answers it.
+// All places of a list, which lie before an end, lie closer, once one was taken out.
+fn close_list(order: &mut Vec<u16>, end: usize, taken: u16)
+    requires { end ≤ vec_len order.old }
+    ensures items { order.new.items ≡ map (closed taken) (take end order.old.items) ++ drop end order.old.items }
+    ensures len { vec_len order.new ≡ vec_len order.old }
+    ensures capacity { vec_capacity order.new ≡ vec_capacity order.old }
+{
+    close_up(&mut order[0..end], taken);
+}
+
+// Takes a place out of a list, and answers it: what stands behind it, before an end, moves one to the front.
 fn take_place(order: &mut Vec<u16>, at: usize, end: usize) -> u16
     requires at { at < end }
     requires end { end ≤ vec_len order.old }
     ensures value { result ≡ slice_index order.old.items at }
-    ensures items { order.new.items ≡ map (closed result) (take (end - 1) (remove order.old.items at)) ++ drop (end - 1) (remove order.old.items at) }
-    ensures len { vec_len order.new + 1 ≡ vec_len order.old }
+    ensures items { order.new.items ≡ copy_within order.old.items (at + 1) end at }
+    ensures len { vec_len order.new ≡ vec_len order.old }
     ensures capacity { vec_capacity order.new ≡ vec_capacity order.old }
 {
-    let taken = order.remove(at);
-    close_up(&mut order[0..end - 1], taken);
-    taken
+    let place = order[at];
+    order.copy_within(at + 1..end, at);
+    place
 }
 
 // Puts a place into a list: what stands from there on, before an end, moves one to the back, over the slack there.
@@ -185,6 +196,14 @@ fn slack_for(places: usize) -> usize
     ensures { result ≡ places / 256 + 4 }
 {
     places / 256 + 4
+}
+
+// How many items there is room for beside the offsets: for so many places, and for the most slack.
+fn places_room(most_places: usize) -> usize
+    requires { most_places < 2 ^ 31 }
+    ensures { result ≡ places_room most_places }
+{
+    most_places + GROUPS * slack_for(most_places)
 }
 
 // How much slack lies before each group where all have as much.
@@ -209,29 +228,49 @@ fn offsets_start(starts: &BucketStarts, before: &[u32; 33]) -> usize
     starts.group_start(GROUPS) + before[GROUPS] as usize
 }
 
-// Moves what stands from a place of a list on so much to the back.
-fn move_rest(order: &mut Vec<u16>, at: usize, by: usize)
-    requires at { at ≤ vec_len order.old }
-    requires room { vec_len order.old + by ≤ vec_capacity order.old }
+// Moves the places of each group to the front, so that no slack lies before them: the first group first, so that none is overwritten.
+fn gather(order: &mut Vec<u16>, starts: &BucketStarts, before: &[u32; 33])
+    requires spaced { IsSpaced before.now starts.now }
+    requires inside { slice_index starts.now 1024 + slice_index before.now 32 ≤ vec_len order.old }
+    ensures places { take (slice_index starts.now 1024) order.new.items ≡ places_in order.old.items before.now starts.now }
+    ensures following { drop (slice_index starts.now 1024) order.new.items ≡ drop (slice_index starts.now 1024) order.old.items }
+    ensures len { vec_len order.new ≡ vec_len order.old }
+    ensures capacity { vec_capacity order.new ≡ vec_capacity order.old }
+{
+    for group in 0..GROUPS {
+        let slack = before[group] as usize;
+        if slack > 0 {
+            let start = starts.group_start(group);
+            let end = starts.group_start(group + 1);
+            order.copy_within(start + slack..end + slack, start);
+        }
+    }
+}
+
+// Moves what begins so far behind a place of a list, so that it begins as far behind it as another number says.
+fn move_rest(order: &mut Vec<u16>, at: usize, from: usize, to: usize)
+    requires inside { at + from ≤ vec_len order.old }
+    requires room { vec_len order.old + to ≤ vec_capacity order.old + from }
     ensures front { take at order.new.items ≡ take at order.old.items }
-    ensures rest { drop (at + by) order.new.items ≡ drop at order.old.items }
-    ensures len { vec_len order.new ≡ vec_len order.old + by }
+    ensures rest { drop (at + to) order.new.items ≡ drop (at + from) order.old.items }
+    ensures len { vec_len order.new + from ≡ vec_len order.old + to }
     ensures capacity { vec_capacity order.new ≡ vec_capacity order.old }
 {
     let len = order.len();
-    for _ in 0..by {
+    let more = to.saturating_sub(from);
+    for _ in 0..more {
         order.push_reserved(0);
     }
-    order.copy_within(at..len, at + by);
+    order.copy_within(at + from..len, at + to);
+    order.truncate(len - from + to);
 }
 
-// Moves the places of each group to the back, to where more slack lies before them: the last group first, so that none is overwritten.
-fn move_groups(order: &mut Vec<u16>, starts: &BucketStarts, from: &[u32; 33], to: &[u32; 33])
-    requires from { IsSpaced from.now starts.now }
+// Moves the places of each group, before which no slack lies, to the back, to where slack lies before them: the last group first, so
+// that none is overwritten.
+fn move_groups(order: &mut Vec<u16>, starts: &BucketStarts, to: &[u32; 33])
     requires to { IsSpaced to.now starts.now }
-    requires more { (g : ℕ) → g ≤ 32 → slice_index from.now g ≤ slice_index to.now g }
     requires len { slice_index starts.now 1024 + slice_index to.now 32 ≤ vec_len order.old }
-    ensures moved { AreMoved from.now to.now starts.now 0 order.old.items order.new.items }
+    ensures moved { AreMoved to.now starts.now 0 order.old.items order.new.items }
     ensures len { vec_len order.new ≡ vec_len order.old }
     ensures capacity { vec_capacity order.new ≡ vec_capacity order.old }
 {
@@ -240,15 +279,13 @@ fn move_groups(order: &mut Vec<u16>, starts: &BucketStarts, from: &[u32; 33], to
         let end = starts.group_start(group);
         group -= 1;
         let start = starts.group_start(group);
-        let before = from[group] as usize;
-        order.copy_within(start + before..end + before, start + to[group] as usize);
+        order.copy_within(start..end, start + to[group] as usize);
     }
 }
 
 // Gives each group so much slack.
 fn spread(order: &mut Vec<u16>, starts: &BucketStarts, before: &mut [u32; 33], slack: usize)
     requires spaced { IsSpaced before.old starts.now }
-    requires most { (g : ℕ) → g ≤ 32 → slice_index before.old g ≤ slack * g }
     requires small { slack < 2 ^ 26 }
     requires inside { slice_index starts.now 1024 + slice_index before.old 32 ≤ vec_len order.old }
     requires room { vec_len order.old + 32 * slack ≤ vec_capacity order.old + slice_index before.old 32 }
@@ -256,41 +293,64 @@ fn spread(order: &mut Vec<u16>, starts: &BucketStarts, before: &mut [u32; 33], s
     ensures even { (g : ℕ) → g ≤ 32 → slice_index before.new g ≡ slack * g }
     ensures places { places_in order.new.items before.new starts.now ≡ places_in order.old.items before.old starts.now }
     ensures offsets { drop (slice_index starts.now 1024 + slice_index before.new 32) order.new.items ≡ drop (slice_index starts.now 1024 + slice_index before.old 32) order.old.items }
-    ensures len { vec_len order.new + slice_index before.old 32 ≡ vec_len order.old + 32 * slack }
+    ensures len { vec_len order.new + slice_index before.old 32 ≡ vec_len order.old + slice_index before.new 32 }
     ensures capacity { vec_capacity order.new ≡ vec_capacity order.old }
 {
     let even = even_slack(slack);
-    let more = GROUPS * slack - before[GROUPS] as usize;
-    move_rest(order, offsets_start(starts, before), more);
-    move_groups(order, starts, before, &even);
+    gather(order, starts, before);
+    move_rest(
+        order,
+        starts.group_start(GROUPS),
+        before[GROUPS] as usize,
+        even[GROUPS] as usize,
+    );
+    move_groups(order, starts, &even);
     *before = even;
 }
 
-// Sees to it that a group has slack: where it has none left, each gets so much.
-fn make_slack(
-    order: &mut Vec<u16>,
-    starts: &BucketStarts,
-    before: &mut [u32; 33],
-    slack: usize,
-    group: usize,
-)
+// Sees to it that a group has slack, and that there isn't too much: where it has none left, or where more than twice as much lies before
+// the offsets as all groups get, each group gets slack anew.
+fn make_slack(order: &mut Vec<u16>, starts: &BucketStarts, before: &mut [u32; 33], group: usize)
     requires spaced { IsSpaced before.old starts.now }
-    requires most { (g : ℕ) → g ≤ 32 → slice_index before.old g ≤ slack * g }
-    requires some { 0 < slack }
-    requires small { slack < 2 ^ 26 }
     requires inside { slice_index starts.now 1024 + slice_index before.old 32 ≤ vec_len order.old }
-    requires room { vec_len order.old + 32 * slack ≤ vec_capacity order.old + slice_index before.old 32 }
+    requires room { vec_len order.old + 32 * (slice_index starts.now 1024 / 256 + 4) ≤ vec_capacity order.old + slice_index before.old 32 }
     requires group { group < 32 }
     ensures spaced { IsSpaced before.new starts.now }
-    ensures most { (g : ℕ) → g ≤ 32 → slice_index before.new g ≤ slack * g }
     ensures slack { slice_index before.new group < slice_index before.new (group + 1) }
+    ensures most { (n : ℕ) → slice_index before.old 32 ≤ n → 32 * (slice_index starts.now 1024 / 256 + 4) ≤ n → slice_index before.new 32 ≤ n }
     ensures places { places_in order.new.items before.new starts.now ≡ places_in order.old.items before.old starts.now }
     ensures offsets { drop (slice_index starts.now 1024 + slice_index before.new 32) order.new.items ≡ drop (slice_index starts.now 1024 + slice_index before.old 32) order.old.items }
     ensures len { vec_len order.new + slice_index before.old 32 ≡ vec_len order.old + slice_index before.new 32 }
     ensures capacity { vec_capacity order.new ≡ vec_capacity order.old }
 {
-    if before[group] == before[group + 1] {
+    let slack = slack_for(starts.group_start(GROUPS));
+    if before[group] == before[group + 1] || before[GROUPS] as usize > 2 * (GROUPS * slack) {
         spread(order, starts, before, slack);
+    }
+}
+
+// Sees to it that there is room for two offsets of each of so many formals, where the offsets begin at a place of a list and there is
+// room for so many. Where there is none, or more are given up than aren't, those that aren't move to the front, and what was given up
+// there becomes room behind.
+fn make_offset_room(
+    order: &mut Vec<u16>,
+    start: usize,
+    given_up: &mut usize,
+    room: usize,
+    count: usize,
+)
+    requires inside { start + given_up.old ≤ vec_len order.old }
+    requires within { vec_len order.old ≤ start + room }
+    ensures inside { start + given_up.new ≤ vec_len order.new }
+    ensures before { take start order.new.items ≡ take start order.old.items }
+    ensures offsets { drop given_up.new (drop start order.new.items) ≡ drop given_up.old (drop start order.old.items) }
+    ensures room { (n : ℕ) → n ≤ 2 * count → vec_len order.old + n ≤ start + given_up.old + room → vec_len order.new + n ≤ start + room }
+    ensures capacity { vec_capacity order.new ≡ vec_capacity order.old }
+{
+    let len = order.len() - start;
+    if (room - len) / 2 < count || *given_up > len - *given_up {
+        cut(order, start, start + *given_up);
+        *given_up = 0;
     }
 }
 
@@ -305,12 +365,11 @@ impl Index {
         requires { 2 * most_places + most_offsets < 2 ^ 32 }
         ensures { IfOk result (λ index. index ≡ empty_index (record { places = most_places; formal_offsets = most_offsets })) }
     {
-        let places_room = most_places + GROUPS * slack_for(most_places);
-        match Vec::with_capacity(alloc, places_room + most_offsets) {
+        match Vec::with_capacity(alloc, places_room(most_places) + most_offsets) {
             Ok(order) => Ok(Index {
                 order,
                 slack_before: [0; 33],
-                group_slack: 0,
+                given_up: 0,
                 most_places,
                 bucket_starts: BucketStarts::new(),
             }),
@@ -325,7 +384,7 @@ impl Index {
         let slack = slack_for(0).min(self.order.len() / GROUPS);
         self.order.truncate(GROUPS * slack);
         self.slack_before = even_slack(slack);
-        self.group_slack = slack;
+        self.given_up = 0;
         self.bucket_starts.clear();
     }
 
@@ -344,7 +403,7 @@ impl Index {
     pub(crate) fn formal_offsets(&self) -> &[u16]
         ensures { result.now ≡ self.now.formal_offsets }
     {
-        &self.order[offsets_start(&self.bucket_starts, &self.slack_before)..]
+        &self.order[offsets_start(&self.bucket_starts, &self.slack_before) + self.given_up..]
     }
 
     // Where a bucket begins, or where the last one ends.
@@ -366,13 +425,10 @@ impl Index {
         ensures { Enters gap place bucket self.old self.new }
     {
         let group = bucket / GROUP;
-        let count = self.bucket_starts.group_start(GROUPS);
-        self.group_slack = self.group_slack.max(slack_for(count));
         make_slack(
             &mut self.order,
             &self.bucket_starts,
             &mut self.slack_before,
-            self.group_slack,
             group,
         );
         let before = self.slack_before[group] as usize;
@@ -390,10 +446,20 @@ impl Index {
         ensures value { result ≡ slice_index self.old.places at }
         ensures leaves { Leaves at result bucket self.old self.new }
     {
-        let first = at + self.slack_before[bucket / GROUP] as usize;
-        let end = offsets_start(&self.bucket_starts, &self.slack_before);
-        let place = take_place(&mut self.order, first, end);
+        let group = bucket / GROUP;
+        make_slack(
+            &mut self.order,
+            &self.bucket_starts,
+            &mut self.slack_before,
+            group,
+        );
+        let before = self.slack_before[group] as usize;
+        let end = self.bucket_starts.group_start(group + 1);
+        let place = take_place(&mut self.order, at + before, end + before);
+        let offsets = offsets_start(&self.bucket_starts, &self.slack_before);
+        close_list(&mut self.order, offsets, place);
         self.bucket_starts.begin_sooner(bucket);
+        move_up(&mut self.slack_before[group + 1..]);
         place as usize
     }
 
@@ -405,16 +471,27 @@ impl Index {
         requires room { length self.old.formal_offsets + length (offsets_of (formals_read count list.now)) ≤ self.old.room.formal_offsets }
         ensures { self.new ≡ record self.old { formal_offsets = self.old.formal_offsets ++ offsets_of (formals_read count list.now) } }
     {
+        let start = offsets_start(&self.bucket_starts, &self.slack_before);
+        let room = self.order.capacity() - places_room(self.most_places);
+        make_offset_room(&mut self.order, start, &mut self.given_up, room, count);
         push_offsets(&mut self.order, list, count);
     }
 
-    // Takes offsets out of the middle. Most macros have none, and then nothing moves.
+    // Takes offsets out of the middle. Where those before them are less than a third of those behind, they move to the back, and their
+    // old room at the front is given up; else those behind move to the front. Most macros have none, and then nothing moves.
     pub(crate) fn cut_offsets(&mut self, from: usize, to: usize)
         requires { (from ≤ to) × (to ≤ length self.old.formal_offsets) }
         ensures { self.new ≡ record self.old { formal_offsets = remove_range self.old.formal_offsets from to } }
     {
-        if from < to {
-            let first = offsets_start(&self.bucket_starts, &self.slack_before);
+        if from == to {
+            return;
+        }
+        let first = offsets_start(&self.bucket_starts, &self.slack_before) + self.given_up;
+        let following = self.order.len() - (first + to);
+        if from < following / 3 {
+            cover(&mut self.order, first, first + from, to - from);
+            self.given_up += to - from;
+        } else {
             cut(&mut self.order, first + from, first + to);
         }
     }

@@ -102,14 +102,15 @@ pub(crate) fn cut<T: Copy>(list: &mut Vec<T>, from: usize, to: usize)
     list.truncate(count - (to - from));
 }
 
-// Moves the bytes between two places so much further to the back, over those behind them.
-fn cover(bytes: &mut Vec<u8>, from: usize, to: usize, size: usize)
-    requires { (from ≤ to) × (to + size ≤ vec_len bytes.old) }
-    ensures items { drop (from + size) bytes.new.items ≡ slice_range bytes.old.items from to ++ drop (to + size) bytes.old.items }
-    ensures len { vec_len bytes.new ≡ vec_len bytes.old }
-    ensures capacity { vec_capacity bytes.new ≡ vec_capacity bytes.old }
+// Moves the bytes or numbers between two places so much further to the back, over those behind them.
+pub(crate) fn cover<T: Copy>(list: &mut Vec<T>, from: usize, to: usize, size: usize)
+    requires { (from ≤ to) × (to + size ≤ vec_len list.old) }
+    ensures before { take from list.new.items ≡ take from list.old.items }
+    ensures items { drop (from + size) list.new.items ≡ slice_range list.old.items from to ++ drop (to + size) list.old.items }
+    ensures len { vec_len list.new ≡ vec_len list.old }
+    ensures capacity { vec_capacity list.new ≡ vec_capacity list.old }
 {
-    bytes.copy_within(from..to, from + size);
+    list.copy_within(from..to, from + size);
 }
 
 // How many bytes a definition has.

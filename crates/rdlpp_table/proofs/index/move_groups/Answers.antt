@@ -4,7 +4,7 @@ use Rattle.rdlpp_table.proofs.Sizes.{count_items}
 use Rattle.rdlpp_table.proofs.index.move_groups.Goals as goal
 
 pub loop-group-init : goal.loop-group-init
-loop-group-init c = record { inside = omega arith; moved = none_moved _ _ _ _; len = refl; capacity = refl }
+loop-group-init c = record { inside = omega arith; moved = none_moved _ _ _; len = refl; capacity = refl }
 
 pub loop-group-preserved : goal.loop-group-preserved
 loop-group-preserved c =
@@ -12,7 +12,7 @@ loop-group-preserved c =
     let items = rw (c.group_start-end.ensures.value, c.group_start-start.ensures.value) at c.copy_within.ensures.items in
     record {
       inside = omega (arith, i.inside);
-      moved = one_moved _ _ _ _ _ _ c.loop-group.group (c.loop-group.group - 1) c.requires.from c.requires.to c.requires.more (omega (arith, c.loop-group-test.true)) i.inside (omega (arith, c.requires.len, i.len, count_items c.loop-group.order)) i.moved items;
+      moved = one_moved _ _ _ _ _ c.loop-group.group (c.loop-group.group - 1) c.requires.to (omega (arith, c.loop-group-test.true)) i.inside (omega (arith, c.requires.len, i.len, count_items c.loop-group.order)) i.moved items;
       len = c.copy_within.ensures.len ∙ i.len;
       capacity = c.copy_within.ensures.capacity ∙ i.capacity;
     }

@@ -54,7 +54,7 @@ pub returns-then-has_room-clause-stored : goal.returns-then-has_room-clause-stor
 returns-then-has_room-clause-stored c =
     let m : c.args.place < length (macros_in c.args.bytes.now.items (drop c.args.front.now.entries c.args.entries.now.items)) = omega (arith, c.requires.place, length_macros_in c.args.bytes.now.items (drop c.args.front.now.entries c.args.entries.now.items)) in
     let t = taken_live c.args.bytes.now.items c.args.entries.now.items _ _ _ _ _ c.requires.stored c.requires.place c.index.ensures c.size_of_entry-size.ensures c.offsets_len-formal_offsets.ensures in
-    covered_stored _ _ _ _ _ _ _ _ _ _ c.requires.stored t m c.cover.ensures.items (sym (count_items c.cover.new.bytes) ∙ (c.cover.ensures.len ∙ count_items c.args.bytes.now)) c.cover_entry.ensures.items
+    covered_stored _ _ _ _ _ _ _ _ _ _ c.requires.stored t m c.cover.ensures.items (sym (count_items c.cover.new.list) ∙ (c.cover.ensures.len ∙ count_items c.args.bytes.now)) c.cover_entry.ensures.items
 
 pub returns-else-before-following-clause-stored : goal.returns-else-before-following-clause-stored
 returns-else-before-following-clause-stored c =

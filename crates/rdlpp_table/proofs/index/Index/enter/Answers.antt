@@ -1,6 +1,6 @@
-use Rattle.std.proofs.Common.{◌<◌, ◌≤◌, ◌-◌, ◌/◌, ◌+◌, ◌∙◌, ℕ, ap, arith, get_or, length, subst, sym, vec_capacity, vec_len}
-use Rattle.rdlpp_table.specs.IndexView.{IndexView, IsArranged, places_room}
-use Rattle.rdlpp_table.proofs.Arranged.{entered_arranged, enters, places_long, some_slack}
+use Rattle.std.proofs.Common.{◌<◌, ◌≤◌, ◌-◌, ◌/◌, ◌+◌, ◌∙◌, ℕ, ap, arith, get_or, length, subst, sym, vec_len}
+use Rattle.rdlpp_table.specs.IndexView.{IndexView, places_room}
+use Rattle.rdlpp_table.proofs.Arranged.{entered_arranged, enters, places_long, slack_arranged, some_slack}
 use Rattle.rdlpp_table.proofs.Groups.{mapped}
 use Rattle.rdlpp_table.proofs.Sizes.{count_items}
 use Rattle.rdlpp_table.proofs.index.Index.enter.Goals as goal
@@ -13,15 +13,7 @@ invariant_of-self c =
     let x = c.self.inside in
     let count : get_or x.bucket_starts 1024 0 < x.most_places = omega (arith, c.requires.room, ap (λ (v : IndexView). length v.places) c.self.view_is, places_long x.order.items x.slack_before x.bucket_starts, ap (λ (v : IndexView). v.room.places) c.self.view_is) in
     let gap = subst (λ (v : IndexView). (get_or v.bucket_starts c.args.bucket 0 ≤ c.args.gap) × (c.args.gap ≤ get_or v.bucket_starts (c.args.bucket + 1) 0)) (sym c.self.view_is) c.requires.gap in
-    let a : IsArranged (vec_len c.put_place.new.order) (vec_capacity c.put_place.new.order) c.make_slack.new.before x.bucket_starts c.max-self-inside.result x.most_places = record {
-      spaced = c.make_slack.ensures.spaced;
-      most = c.make_slack.ensures.most;
-      little = omega (arith, c.max-self-inside.ensures, c.slack_for.ensures, c.group_start-count.ensures.value, c.self.invariant.little, count);
-      narrow = c.self.invariant.narrow;
-      few = c.self.invariant.few;
-      inside = omega (arith, c.put_place.ensures.len, c.make_slack.ensures.len, c.self.invariant.inside);
-      room = omega (arith, c.put_place.ensures.len, c.put_place.ensures.capacity, c.make_slack.ensures.len, c.make_slack.ensures.capacity, c.self.invariant.room);
-    } in
+    let a = slack_arranged _ _ (vec_len c.put_place.new.order) _ _ _ _ _ _ c.self.invariant c.make_slack.ensures.spaced c.make_slack.ensures.most (omega (arith, c.put_place.ensures.len, c.make_slack.ensures.len)) (c.put_place.ensures.capacity ∙ c.make_slack.ensures.capacity) in
     entered_arranged _ _ _ _ _ _ _ _ _ c.requires.bucket a.spaced gap.0 gap.1 (omega (arith, a.inside, c.put_place.ensures.len, count_items c.make_slack.new.order)) c.make_slack.ensures.slack c.begin_later.ensures
     (mapped (λ n. n - 1) (c.args.bucket / 32 + 1) 33 c.make_slack.new.before c.move_down.new.starts (omega (arith, c.requires.bucket)) (omega (arith, a.spaced.groups)) c.move_down.ensures)
     (rw c.group_start-end.ensures.value at c.put_place.ensures.items) _ _ _ _ a count
@@ -33,5 +25,5 @@ returns c =
     let moved = mapped (λ n. n - 1) (c.args.bucket / 32 + 1) 33 c.make_slack.new.before c.move_down.new.starts (omega (arith, c.requires.bucket)) (omega (arith, c.make_slack.ensures.spaced.groups)) c.move_down.ensures in
     rw (← c.self.view_is) (enters _ _ _ _ _ _ _ _ _ c.requires.bucket c.make_slack.ensures.spaced gap.0 gap.1
     (omega (arith, c.self.invariant.inside, c.make_slack.ensures.len, count_items c.make_slack.new.order)) c.make_slack.ensures.slack c.begin_later.ensures moved
-    (rw c.group_start-end.ensures.value at c.put_place.ensures.items) x.order.items x.slack_before x.most_places _ _ c.make_slack.ensures.places c.make_slack.ensures.offsets
+    (rw c.group_start-end.ensures.value at c.put_place.ensures.items) x.order.items x.slack_before x.given_up x.most_places _ _ c.make_slack.ensures.places c.make_slack.ensures.offsets
     (ap (λ (n : ℕ). n - places_room x.most_places) (c.put_place.ensures.capacity ∙ c.make_slack.ensures.capacity)))
