@@ -284,7 +284,7 @@ unfolding macro_offsets
 appended_offsets name arity list size is_logical text count last a = ap offsets_of a.read
 
 -- they are few
-pub appended_few : (arity : Option ℕ) (list : List ℕ) (size count : ℕ) (last : List ℕ) → IsList arity list size → IsAppended arity list size count last → length (offsets_of (formals_read count last)) ≤ 2 * (size / 8)
+pub appended_few : (arity : Option ℕ) (list : List ℕ) (size count : ℕ) (last : List ℕ) → IsList arity list size → IsAppended arity list size count last → length (offsets_of (formals_read count last)) ≤ 2 * (size / 4)
 appended_few arity list size count last l a =
     omega (arith, ap (λ (fs : List Formal). length (offsets_of fs)) a.read, few_offsets_of (unwrap_or (list_formals arity list) []), l.size_is)
 

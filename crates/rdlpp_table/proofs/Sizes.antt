@@ -153,17 +153,17 @@ offsets_len_of start formal_offsets m = grind (arith, count_of, length_offsets_o
 pub two_offsets : (fs : List Formal) → length (offsets_of fs) ≤ 2 * length fs
 two_offsets fs = grind (arith, cases_Bool, length_offsets_of, cond-true, cond-false)
 
--- formals have at most two offsets for eight bytes
-pub few_offsets_of : (fs : List Formal) → length (offsets_of fs) ≤ 2 * (sum_by formal_size fs / 8)
+-- formals have at most two offsets for four bytes
+pub few_offsets_of : (fs : List Formal) → length (offsets_of fs) ≤ 2 * (sum_by formal_size fs / 4)
 unfolding has_offsets
 few_offsets_of fs = grind (arith, leb_tells, length_offsets_of, cond-true, cond-false)
 
-pub few_offsets_in : (m : Macro) → length (macro_offsets m) ≤ 2 * (macro_size m / 8)
+pub few_offsets_in : (m : Macro) → length (macro_offsets m) ≤ 2 * (macro_size m / 4)
 unfolding macro_offsets macro_size
 few_offsets_in m = omega (arith, few_offsets_of (unwrap_or m.formals []))
 
--- macros have at most two offsets for eight bytes
-pub few_offsets : (ms : List Macro) → length (table_offsets ms) ≤ 2 * (table_size ms / 8)
+-- macros have at most two offsets for four bytes
+pub few_offsets : (ms : List Macro) → length (table_offsets ms) ≤ 2 * (table_size ms / 4)
 few_offsets [] = omega (arith, no_offsets)
 few_offsets (m ∷ ms) = omega (arith, length_offsets-cons m ms, table_size-cons m ms, few_offsets_in m, few_offsets ms)
 

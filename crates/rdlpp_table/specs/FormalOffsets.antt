@@ -15,9 +15,9 @@ unfoldable pub halves : List ℕ → List ℕ
 halves [] = []
 halves (n ∷ ns) = n % 65536 ∷ n / 65536 ∷ halves ns
 
--- whether it is kept where so many formals begin, which take so many bytes: where they take eight each, or more
+-- whether it is kept where so many formals begin, which take so many bytes: where they take four each, or more
 unfoldable pub has_offsets : ℕ → ℕ → Bool
-has_offsets count size = nat_le (8 * count) size
+has_offsets count size = nat_le (4 * count) size
 
 -- what is kept of where formals begin
 unfoldable pub offsets_of : List Formal → List ℕ

@@ -29,6 +29,6 @@ pub record IsLaidOut (t : Inside) : Type 0 where
   pub entry_room : vec_capacity t.entries ≡ t.most_macros
   pub indexed : IsIndexed (names_of (macros_in t.bytes.items (live t.front.entries t.entries.items))) t.index.places t.index.bucket_starts
   pub marked : t.index.formal_offsets ≡ table_offsets (macros_in t.bytes.items (live t.front.entries t.entries.items))
-  pub index_room : t.index.room ≡ record { places = t.most_macros; formal_offsets = 2 * (t.most_bytes / 8) }
+  pub index_room : t.index.room ≡ record { places = t.most_macros; formal_offsets = 2 * (t.most_bytes / 4) }
   pub few : t.most_macros ≤ 65536
   pub small : t.most_bytes ≤ 16777216

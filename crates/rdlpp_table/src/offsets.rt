@@ -12,7 +12,7 @@ use crate::stored::{
 };
 
 // How many bytes each formal takes, on average, where it is kept where they begin.
-pub(crate) const LONG_FORMAL: usize = 8;
+pub(crate) const LONG_FORMAL: usize = 4;
 
 // So many formals as they lie in a table, and where each of them begins, as two halves, or nothing where they are short.
 #[derive(Clone, Copy, Drop)]

@@ -84,7 +84,7 @@ fn put(
     requires marked { index.old.formal_offsets ≡ table_offsets (macros_in bytes.old.items (live front.now.entries entries.old.items)) }
     requires room { vec_len bytes.old + (length new.now.name.now + (new.now.list_len + new.now.body_len)) ≤ vec_capacity bytes.old }
     requires entry_room { vec_len entries.old < vec_capacity entries.old }
-    requires offset_room { length index.old.formal_offsets + 2 * (new.now.list_len / 8) ≤ index.old.room.formal_offsets }
+    requires offset_room { length index.old.formal_offsets + 2 * (new.now.list_len / 4) ≤ index.old.room.formal_offsets }
     requires small { new.now.list_len < 2 ^ 32 }
     requires narrow { vec_capacity bytes.old < 2 ^ 32 }
     requires short { length new.now.name.now < 256 }
@@ -218,7 +218,7 @@ pub(crate) fn replace(
     requires entry_room { length (without new.now.name.now (macros_in bytes.old.items (live front.old.entries entries.old.items))) < vec_capacity entries.old }
     requires places { vec_capacity entries.old ≤ 65536 }
     requires index_room { length (without new.now.name.now (macros_in bytes.old.items (live front.old.entries entries.old.items))) < index.old.room.places }
-    requires offset_room { 2 * ((table_size (without new.now.name.now (macros_in bytes.old.items (live front.old.entries entries.old.items))) + new.now.list_len) / 8) ≤ index.old.room.formal_offsets }
+    requires offset_room { 2 * ((table_size (without new.now.name.now (macros_in bytes.old.items (live front.old.entries entries.old.items))) + new.now.list_len) / 4) ≤ index.old.room.formal_offsets }
     ensures stored { IsStored front.new.bytes front.new.formal_offsets bytes.new.items (live front.new.entries entries.new.items) (without new.now.name.now (macros_in bytes.old.items (live front.old.entries entries.old.items)) ++ new_macro new.now.name.now new.now.arity new.now.list.now new.now.is_logical new.now.text.now ∷ []) }
     ensures given_up { front.new.entries ≤ vec_len entries.new }
     ensures few_given_up { (front.new.bytes ≤ vec_len bytes.new - front.new.bytes) × (front.new.entries ≤ vec_len entries.new - front.new.entries) }
