@@ -10,7 +10,7 @@ from . import _library as library
 from ._limits import Limits
 from ._request import Request
 
-# The text that the limits of a kept handle allow; with all its tables it has less than 16 MB then.
+# The text that the limits of a kept handle allow; with all its tables it has less than 18 MB then.
 MOST_HELD = 4_000_000
 # What was given to it at most, of which it has copies, with so much beside each path, folder and definition.
 MOST_GIVEN = 1_000_000
@@ -127,10 +127,10 @@ def release() -> None:
         b'reg[8];\\n'
         >>> rdlpp.release()
 
-    `preprocess`, `run` and `stream` use memory by their limits, 4.2 MB by the standard ones. When a call has ended, its
+    `preprocess`, `run` and `stream` use memory by their limits, 4.7 MB by the standard ones. When a call has ended, its
     thread keeps this for its next one, and with it copies of what the call was given; a call with other limits gives it
     back first. So a thread keeps the memory of one call, and only where that is small: `definition_bytes +
-    argument_bytes + (includes + 1) * line_bytes` are at most 4,000,000, by which it is less than 16 MB; and the sources,
+    argument_bytes + (includes + 1) * line_bytes` are at most 4,000,000, by which it is less than 18 MB; and the sources,
     paths, folders and definitions have at most 1,000,000 bytes together, where each counts as 100 bytes more. It is given
     back by this call and where the thread ends. A stream leaves it to the thread that made it where it is read to its
     end, or closed, there; else it is given back. The child of a fork gives it back at once.
