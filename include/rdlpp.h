@@ -4,7 +4,7 @@
  * NAME
  *     rdlpp_standard_limits, rdlpp_standard_request, rdlpp_preprocess,
  *     rdlpp_open, rdlpp_reopen, rdlpp_read, rdlpp_read_mapped, rdlpp_position, rdlpp_definitions, rdlpp_notes, rdlpp_close,
- *     rdlpp_give, rdlpp_give_once, rdlpp_give_absent, rdlpp_give_failed,
+ *     rdlpp_give, rdlpp_give_part, rdlpp_give_once, rdlpp_give_absent, rdlpp_give_failed,
  *     rdlpp_fault_text, rdlpp_version
  *
  * LINKING
@@ -300,6 +300,19 @@ uint32_t rdlpp_give(
     rdlpp_handle *handle,
     const char *path, size_t path_length,
     const char *text, size_t text_length);
+
+/*
+ * Gives a handle a part of the next text, which is copied: what rdlpp_give or rdlpp_give_once gives next goes on
+ * behind it, as behind the parts before it. So a file is given while it is read, and the last call may give no more
+ * bytes. `more` is about how many bytes will follow, for which memory is asked at once; it may be 0.
+ *
+ * The parts belong to the next source that is told, by one of these two calls or by the two that follow, whatever its
+ * answer: none is left then.
+ *
+ * The answer is RDLPP_WHOLE; RDLPP_NO_MEMORY where memory was refused, and RDLPP_CLOSED where the handle is closed: with
+ * these nothing changed.
+ */
+uint32_t rdlpp_give_part(rdlpp_handle *handle, const char *part, size_t part_length, size_t more);
 
 /*
  * Tells a handle the text of the source at `path`, as rdlpp_give does, but keeps it no longer than until the next

@@ -65,6 +65,11 @@ static uint32_t give_once(rdlpp_handle *handle, const char *path, const char *te
     return rdlpp_give_once(handle, path, strlen(path), text, strlen(text));
 }
 
+static uint32_t give_part(rdlpp_handle *handle, const char *part, size_t more)
+{
+    return rdlpp_give_part(handle, part, strlen(part), more);
+}
+
 static uint32_t give_absent(rdlpp_handle *handle, const char *path)
 {
     return rdlpp_give_absent(handle, path, strlen(path));
@@ -305,6 +310,63 @@ static void gives_once_what_is_known(void)
     rdlpp_close(&handle);
 }
 
+/* A text may be given by parts, whose last one has no bytes of its own; none is left behind what is told next. */
+static void gives_by_parts(void)
+{
+    rdlpp_handle handle = RDLPP_CLOSED_HANDLE;
+    rdlpp_outcome outcome;
+    open_asking(&handle);
+    check(give_part(&handle, "`include \"i\"\n`inc", 3) == RDLPP_WHOLE, "a part before the main text is asked for");
+    outcome = read_some(&handle);
+    check(wants(&outcome, "m", 0), "which is no text yet");
+    check(give_part(&handle, "lude \"j\"\n", 0) == RDLPP_WHOLE && give_part(&handle, "", 100) == RDLPP_WHOLE, "parts");
+    check(give(&handle, "m", "`include \"i\"\nend\n") == RDLPP_WHOLE, "the rest of the main text");
+    outcome = read_some(&handle);
+    check(wants(&outcome, "i", 0) && give_part(&handle, "on", 0) == RDLPP_WHOLE, "a part of an included source");
+    check(give_once(&handle, "i", "e") == RDLPP_WHOLE, "its rest");
+    outcome = read_some(&handle);
+    check(wants(&outcome, "j", 5) && gave(&outcome, "one\n\n"), "both are its text");
+    check(give_part(&handle, "two", 0) == RDLPP_WHOLE && give_once(&handle, "j", "") == RDLPP_WHOLE, "a text that is one part");
+    outcome = read_some(&handle);
+    check(wants(&outcome, "i", 5) && gave(&outcome, "two\n\n"), "the first one again");
+    check(give_part(&handle, "o", 0) == RDLPP_WHOLE && give_once(&handle, "i", "ne") == RDLPP_WHOLE, "the same text in other parts");
+    outcome = read_some(&handle);
+    check(outcome.status == RDLPP_WHOLE && gave(&outcome, "one\n\nend\n"), "the rest");
+    rdlpp_close(&handle);
+    check(give_part(&handle, "x", 0) == RDLPP_CLOSED, "a closed handle");
+}
+
+/* Parts go with whatever is told next, whatever its answer, and with what was open. */
+static void leaves_no_part(void)
+{
+    const rdlpp_request request = asking();
+    rdlpp_handle handle = RDLPP_CLOSED_HANDLE;
+    rdlpp_outcome outcome;
+    open_asking(&handle);
+    check(give_part(&handle, "lost", 0) == RDLPP_WHOLE && give(&handle, "\xff", "") == RDLPP_BAD_TEXT, "a path that isn't UTF-8");
+    check(give(&handle, "m", "`include \"i\"\n`include \"j\"\n`include \"k\"\n") == RDLPP_WHOLE, "a text alone");
+    check(give_part(&handle, "lost", 0) == RDLPP_WHOLE && give(&handle, "m", "") == RDLPP_WHOLE, "a path of which a text is known");
+    outcome = read_some(&handle);
+    check(wants(&outcome, "i", 0) && give_part(&handle, "lost", 0) == RDLPP_WHOLE, "a part");
+    check(give_absent(&handle, "i") == RDLPP_WHOLE && give(&handle, "inc/i", "a") == RDLPP_WHOLE, "of a source that isn't there");
+    outcome = read_some(&handle);
+    check(wants(&outcome, "j", 3) && gave(&outcome, "a\n\n"), "the text alone");
+    check(give_part(&handle, "lost", 0) == RDLPP_WHOLE && give_once(&handle, "\xff", "") == RDLPP_BAD_TEXT, "once");
+    check(give_once(&handle, "j", "b") == RDLPP_WHOLE, "a text that is given once");
+    outcome = read_some(&handle);
+    check(wants(&outcome, "k", 3) && gave(&outcome, "b\n\n"), "the first text alone");
+    check(give_part(&handle, "lost", 0) == RDLPP_WHOLE && give_failed(&handle, "never") == RDLPP_WHOLE, "one that can't be opened");
+    check(give(&handle, "k", "c") == RDLPP_WHOLE, "a text");
+    outcome = read_some(&handle);
+    check(outcome.status == RDLPP_WHOLE && gave(&outcome, "c\n\n"), "that one alone");
+    check(give_part(&handle, "lost", 0) == RDLPP_WHOLE, "a part that nothing follows");
+    check(rdlpp_reopen(&request, name, sizeof name, word, sizeof word, &handle).status == RDLPP_WHOLE, "it is opened again");
+    check(give(&handle, "m", "d") == RDLPP_WHOLE, "another main text");
+    outcome = read_some(&handle);
+    check(outcome.status == RDLPP_WHOLE && gave(&outcome, "d"), "alone");
+    rdlpp_close(&handle);
+}
+
 /* Any byte of a text that changes is seen, and so is any length. */
 static void sees_each_change(size_t length)
 {
@@ -447,6 +509,8 @@ int main(int count, char **words)
     refuses_another_text("");
     notes_what_ended_it();
     gives_once_what_is_known();
+    gives_by_parts();
+    leaves_no_part();
     sees_each_change(is_short ? 9 : 67);
     asks_with_short_buffers();
     asks_many_times(is_short ? 100 : 10000);

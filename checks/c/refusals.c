@@ -186,6 +186,24 @@ static rdlpp_outcome pull_once(char *out, size_t room)
     return pull_by(rdlpp_give_once, out, room);
 }
 
+/* Gives a text by parts of two bytes. */
+static uint32_t give_parts(rdlpp_handle *handle, const char *path, size_t path_length, const char *text, size_t length)
+{
+    size_t at;
+    for (at = 0; at < length; at += 2) {
+        const uint32_t status = rdlpp_give_part(handle, text + at, length - at < 2 ? length - at : 2, 0);
+        if (status != RDLPP_WHOLE) {
+            return status;
+        }
+    }
+    return rdlpp_give(handle, path, path_length, "", 0);
+}
+
+static rdlpp_outcome pull_parts(char *out, size_t room)
+{
+    return pull_by(give_parts, out, room);
+}
+
 /* Gives two texts once each, and the second again until it is taken: a refusal leaves its path as it was, and keeps nothing. */
 static long give_again(void)
 {
@@ -263,6 +281,6 @@ static int reopens(void)
 int main(void)
 {
     return refuse_each(call) > 8 && refuse_each(read_all) > 8 && refuse_each(pull_all) > 8
-            && refuse_each(pull_once) > 8 && refuse_each(open_twice) > 16 && give_again() > 4 && reopens()
+            && refuse_each(pull_once) > 8 && refuse_each(pull_parts) > 8 && refuse_each(open_twice) > 16 && give_again() > 4 && reopens()
         ? EXIT_SUCCESS : EXIT_FAILURE;
 }

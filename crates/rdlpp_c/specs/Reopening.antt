@@ -1,6 +1,6 @@
 -- What an output begins with that is opened in the place of another one.
 -- A definition that names no source is this project's own.
-use Rattle.std.specs.Prelude.{◌≡◌, ℕ, true, List, Option, None, Result, Ok, Err}
+use Rattle.std.specs.Prelude.{◌≡◌, ℕ, true, List, [], Option, None, Result, Ok, Err}
 use Rattle.rdlpp_expand.specs.declared.writing.RunFault.{RunFault}
 use Rattle.rdlpp_reports.specs.Lines.{no_lines}
 use Rattle.rdlpp_c.specs.Buffers.{overwritten}
@@ -16,11 +16,12 @@ use Rattle.rdlpp_c.specs.declared.telling.Outcome.{Outcome as Numbers}
 abbrev pub no_part : Part
 no_part = record { lines_before = 0; lines = 0; is_empty = true }
 
--- nothing was read of a stream: it has no part of a piece and no line of a map, no text of it was given once, and none was another one than before
+-- nothing was read of a stream: it has no part of a piece and no line of a map, no text of it was given once or by a part, and none was another one than before
 pub record IsUnread (stream : Stream) : Type 0 where
   pub marks : (q : List ℕ) → mark_at stream.once q ≡ None
   pub last : last_of stream.once ≡ None
   pub changed : stream.changed ≡ None
+  pub parts : stream.parts.items ≡ []
   pub part : stream.part ≡ no_part
   pub lines : stream.lines ≡ no_lines
 

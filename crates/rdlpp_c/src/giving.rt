@@ -1,7 +1,7 @@
 // The calls by which a program in C tells what it was asked for.
 ghost use Rattle.std.specs.Prelude.{◌≡◌, IsUtf8, MatchResult};
 ghost use Rattle.std.specs.String.{string_bytes};
-ghost use Rattle.rdlpp_c.specs.Giving.{Gives, GivesOnce, GivesStanding, GivesText, changed_path, once_status};
+ghost use Rattle.rdlpp_c.specs.Giving.{Gives, GivesOnce, GivesPart, GivesStanding, GivesText, LeavesParts, changed_path, once_status};
 ghost use Rattle.rdlpp_source.specs.declared.asked.Standing.TheVariants.{Absent as Gone, Failed};
 ghost use Rattle.rdlpp_c.specs.declared.asking.Refusal.TheVariants.{BadText};
 
@@ -14,12 +14,37 @@ use crate::telling::{BAD_TEXT, CHANGED, CLOSED, NO_MEMORY, WHOLE};
 use arrayvec::ArrayString;
 use rdlpp_source::{AskedTexts, Standing};
 use std::alloc::{AllocError, Global};
+use std::mem::replace;
 
-/// Tells an open output the text of the source at `path`, which is copied. The first that is told of a
-/// path counts; of an output that doesn't ask all is told from the start.
+/// Gives an open output a part of a text, which is copied. The text that is given next, by `rdlpp_give` or
+/// `rdlpp_give_once`, goes on behind it, as behind the parts before it: so a file can be given while it is read. `more` is
+/// about how many bytes will follow, for which memory is asked at once; it may be 0.
+///
+/// Parts belong to the next source that is told, whatever is told of it and whatever the answer: none is left then.
+///
+/// The answer is 0; 4 where memory was refused, and 6 where the handle is closed: with these nothing changed.
+#[unsafe(no_mangle)]
+pub extern "C" fn rdlpp_give_part(
+    alloc: Global,
+    handle: &mut Handle,
+    part: &[u8],
+    more: usize,
+) -> u32
+    ensures { Gives (GivesPart part.now) handle.old.slot.value handle.new.slot.value result }
+{
+    let Some(mut stream) = take(alloc, handle) else {
+        return CLOSED;
+    };
+    let status = give_part(&mut stream, part, more);
+    put(handle, stream);
+    status
+}
+
+/// Tells an open output the text of the source at `path`, which is copied: the parts that were given before, and `text`
+/// behind them. The first that is told of a path counts; of an output that doesn't ask all is told from the start.
 ///
 /// The answer is 0; 3 where `path` isn't UTF-8, 4 where memory was refused, and 6 where the handle is
-/// closed: with these nothing changed.
+/// closed: with these nothing changed, but that no part is left.
 #[unsafe(no_mangle)]
 pub extern "C" fn rdlpp_give(alloc: Global, handle: &mut Handle, path: &[u8], text: &[u8]) -> u32
     ensures { Gives (GivesText path.now text.now) handle.old.slot.value handle.new.slot.value result }
@@ -84,11 +109,37 @@ pub extern "C" fn rdlpp_give_failed(alloc: Global, handle: &mut Handle, path: &[
     status
 }
 
+// Gives an output a part of a text, and answers the status.
+fn give_part(stream: &mut Stream, part: &[u8], more: usize) -> u32
+    ensures { GivesPart part.now stream.old stream.new result }
+{
+    if stream
+        .parts
+        .reserve(part.len().saturating_add(more))
+        .is_err()
+    {
+        return NO_MEMORY;
+    }
+    match stream.parts.extend_from_slice(part) {
+        Ok(()) => WHOLE,
+        Err(_) => NO_MEMORY,
+    }
+}
+
+// Takes the parts of the text that is given next.
+fn take_parts(alloc: Global, stream: &mut Stream) -> Vec<u8>
+    ensures value { result.items ≡ stream.old.parts.items }
+    ensures leaves { LeavesParts stream.old stream.new }
+{
+    replace(&mut stream.parts, Vec::new(alloc))
+}
+
 // Tells an output the text of a source, and answers the status.
 fn give_text(alloc: Global, stream: &mut Stream, path: &[u8], text: &[u8]) -> u32
     ensures { GivesText path.now text.now stream.old stream.new result }
 {
-    match shared_text(alloc, text) {
+    let parts = take_parts(alloc, stream);
+    match shared_text(alloc, parts, text) {
         Ok(shared) => give(alloc, stream, path, Standing::Text(shared)),
         Err(_) => NO_MEMORY,
     }
@@ -98,12 +149,13 @@ fn give_text(alloc: Global, stream: &mut Stream, path: &[u8], text: &[u8]) -> u3
 fn give_once(alloc: Global, stream: &mut Stream, path: &[u8], text: &[u8]) -> u32
     ensures { GivesOnce path.now text.now stream.old stream.new result }
 {
+    let parts = take_parts(alloc, stream);
     let Ok(path) = text_of(path) else {
         return BAD_TEXT;
     };
     let mut sources = stream.reading.replace_sources(AskedTexts::empty(alloc));
     let wanted = sources.wanted;
-    let given = stream.once.give(alloc, &mut sources, path, text);
+    let given = stream.once.give(alloc, &mut sources, path, parts, text);
     let _empty = stream.reading.replace_sources(sources);
     stream.changed = changed_path(&given, wanted, path, stream.changed);
     once_status(given)
@@ -145,6 +197,7 @@ fn once_status(given: Result<Given, AllocError>) -> u32
 fn give(alloc: Global, stream: &mut Stream, path: &[u8], standing: Standing) -> u32
     ensures { GivesStanding path.now standing stream.old stream.new result }
 {
+    let _parts = take_parts(alloc, stream);
     let path = match owned_path(alloc, path) {
         Ok(path) => path,
         Err(Refusal::BadText) => return BAD_TEXT,

@@ -1,5 +1,5 @@
 // The texts of a request, which sources own.
-ghost use Rattle.std.specs.Prelude.{◌≡◌, IfOk, IsUtf8, MatchResult};
+ghost use Rattle.std.specs.Prelude.{◌≡◌, ◌++◌, IfOk, IsUtf8, MatchResult};
 ghost use Rattle.std.specs.List.{All};
 ghost use Rattle.rdlpp_c.specs.Knowing.{AddsText, KnowsTexts};
 ghost use Rattle.rdlpp_c.specs.declared.asking.Refusal.TheVariants.{BadText};
@@ -42,7 +42,7 @@ fn add_text(alloc: Global, sources: &mut AskedTexts, text: &Text<'_>) -> Result<
         (λ refusal. refusal ≡ BadText → ¬ (IsUtf8 text.now.path.now)) }
 {
     let path = owned_path(alloc, text.path)?;
-    let Ok(shared) = shared_text(alloc, text.text) else {
+    let Ok(shared) = shared_text(alloc, Vec::new(alloc), text.text) else {
         return Err(Refusal::NoMemory);
     };
     match sources.add(path, Standing::Text(shared)) {
@@ -51,15 +51,19 @@ fn add_text(alloc: Global, sources: &mut AskedTexts, text: &Text<'_>) -> Result<
     }
 }
 
-// A copy of a text, which its readers share.
-pub(crate) fn shared_text(alloc: Global, text: &[u8]) -> Result<Rc<Vec<u8>, Global>, AllocError>
-    ensures { IfOk result (λ shared. shared.value.items ≡ text.now) }
+// A text that goes on behind parts of it, and that its readers share. What isn't a part yet is copied.
+pub(crate) fn shared_text(
+    alloc: Global,
+    parts: Vec<u8>,
+    text: &[u8],
+) -> Result<Rc<Vec<u8>, Global>, AllocError>
+    ensures { IfOk result (λ shared. shared.value.items ≡ parts.items ++ text.now) }
 {
-    let mut bytes = Vec::new(alloc);
-    if bytes.extend_from_slice(text).is_err() {
+    let mut whole = parts;
+    if whole.extend_from_slice(text).is_err() {
         return Err(AllocError);
     }
-    match Rc::new(alloc, bytes) {
+    match Rc::new(alloc, whole) {
         Ok(shared) => Ok(shared),
         Err(_) => Err(AllocError),
     }

@@ -1,7 +1,7 @@
 // What is kept of texts that are given once: of each path the mark of its text, by which another one is told from it.
-ghost use Rattle.std.specs.Prelude.{◌≡◌, ℕ, List, IfOk, OnOk, OnErr, None, Some, bytes_eq, true, if◌then◌else◌};
+ghost use Rattle.std.specs.Prelude.{◌≡◌, ◌++◌, ℕ, List, IfOk, OnOk, OnErr, None, Some, bytes_eq, true, if◌then◌else◌};
 ghost use Rattle.rdlpp_source.specs.Asked.{Adds, Stays, standing_at};
-ghost use Rattle.rdlpp_c.specs.Once.{Frees, GivenOnce, Stands, freed_at, is_open, is_other, last_of, mark_at};
+ghost use Rattle.rdlpp_c.specs.Once.{Frees, GivenOnce, Stands, freed_at, is_open, is_other, last_of, mark_at, mark_of};
 
 use crate::digest::digest_of;
 use crate::knowing::shared_text;
@@ -25,6 +25,18 @@ pub(crate) enum Given {
 pub(crate) struct Mark {
     length: usize,
     digest: u64,
+}
+
+impl Mark {
+    // The mark of a text.
+    fn of(text: &[u8]) -> Mark
+        ensures { result ≡ mark_of text.now }
+    {
+        Mark {
+            length: text.len(),
+            digest: digest_of(text),
+        }
+    }
 }
 
 // What is kept of texts that are given once.
@@ -72,22 +84,23 @@ impl Once {
         }
     }
 
-    // Gives the text of the source at a path, and forgets the one that was given last. Its mark is kept: another text than
-    // the one that was given of this path before is told as a source that can't be opened. Where memory was refused nothing
-    // is known of the path, as before.
+    // Gives the text of the source at a path, which goes on behind parts of it, and forgets the one that was given last. Its
+    // mark is kept: another text than the one that was given of this path before is told as a source that can't be opened.
+    // Where memory was refused nothing is known of the path, as before.
     pub(crate) fn give(
         &mut self,
         alloc: Global,
         sources: &mut AskedTexts,
         path: &str,
+        parts: Vec<u8>,
         text: &[u8],
     ) -> Result<Given, AllocError>
-        ensures gives { IfOk result (GivenOnce (freed_at self.old sources.old) sources.old.asks path.now text.now self.old sources.new self.new) }
+        ensures gives { IfOk result (GivenOnce (freed_at self.old sources.old) sources.old.asks path.now (parts.items ++ text.now) self.old sources.new self.new) }
         ensures refused { OnErr result (Stands (freed_at self.old sources.old) self.old sources.new self.new) }
         ensures only { sources.new ≡ record sources.old { known = sources.new.known } }
     {
         self.free(sources);
-        self.tell(alloc, sources, path, text)
+        self.tell(alloc, sources, path, parts, text)
     }
 
     // Gives the text of the source at a path, where none is known that was given last.
@@ -96,26 +109,24 @@ impl Once {
         alloc: Global,
         sources: &mut AskedTexts,
         path: &str,
+        parts: Vec<u8>,
         text: &[u8],
     ) -> Result<Given, AllocError>
         requires { last_of self.old ≡ None }
-        ensures gives { IfOk result (GivenOnce (standing_at sources.old) sources.old.asks path.now text.now self.old sources.new self.new) }
+        ensures gives { IfOk result (GivenOnce (standing_at sources.old) sources.old.asks path.now (parts.items ++ text.now) self.old sources.new self.new) }
         ensures refused { OnErr result (Stands (standing_at sources.old) self.old sources.new self.new) }
         ensures only { sources.new ≡ record sources.old { known = sources.new.known } }
     {
         if !is_open(sources, path) {
             return Ok(Given::Known);
         }
-        let mark = Mark {
-            length: text.len(),
-            digest: digest_of(text),
-        };
+        let shared = shared_text(alloc, parts, text)?;
+        let mark = Mark::of(shared.as_ref().as_slice());
         if self.is_other(path, &mark) {
             sources.add(String::from_str(alloc, path)?, Standing::Failed)?;
             return Ok(Given::Other);
         }
-        let text = Standing::Text(shared_text(alloc, text)?);
-        self.take(alloc, sources, path, text, mark)?;
+        self.take(alloc, sources, path, Standing::Text(shared), mark)?;
         Ok(Given::Taken)
     }
 

@@ -30,6 +30,8 @@ pub struct Stream {
     pub(crate) once: Once,
     // the path that was asked for when another text was given of it than before
     pub(crate) changed: Option<ArrayString<1024>>,
+    // the parts so far of the text that is given next
+    pub(crate) parts: Vec<u8>,
     // whether a read ends with its piece
     pieces: bool,
     // what the last read gave of its piece
@@ -80,6 +82,7 @@ impl Stream {
             path,
             once: Once::empty(alloc),
             changed: None,
+            parts: Vec::new(alloc),
             pieces,
             part: Part::none(),
             lines: MappedLines::new(),
@@ -96,6 +99,7 @@ impl Stream {
         self.path = path;
         self.once = Once::empty(alloc);
         self.changed = None;
+        self.parts = Vec::new(alloc);
         self.pieces = pieces;
         self.part = Part::none();
         self.lines = MappedLines::new();
