@@ -12,18 +12,21 @@ import os
 import stat
 from typing import Any, Callable, Mapping, Optional, Protocol, Tuple, Union
 
-from ._written import Part, Written, roomy
+from ._written import Written
 
 # What a mapping and a callable may give as a text.
 Bytes = Union[bytes, bytearray, memoryview]
 # Which file one is, by whatever path it is opened: its device, and its number there.
 FileId = Tuple[int, int]
+# Gives a part of a text, which is copied: where it stands, how long it is, and about how many bytes follow.
+GivePart = Callable[[int, int, int], None]
 
 LF, NUL = b"\n\0"
 NUL_IN_NAME = "file name contained an unexpected NUL byte"
-# How much is read at once: a signal is seen between two such parts.
-PART = 4_194_304
-# The size from which on a file is read into the room of the output: a bytes object of that size is made of new pages each time.
+# How much of a large file is read at once: it stays in the processor's cache until the library has copied it, and a signal
+# is seen between two such parts.
+PART = 262_144
+# The size from which on a file is given in parts: a bytes object of that size is made of new pages each time.
 LARGE = 131_072
 
 # A file with fewer bytes is read before it is asked what it is, where nobody needs to know which one it is.
@@ -49,8 +52,9 @@ class Asked(Protocol):
     stays: bool
     file: Optional[FileId]
 
-    def text_at(self, path: bytes, written: Written) -> Union[Bytes, Part, None]:
-        """The text at a path in UTF-8. What it reads itself may stand in the room that it is lent, after what was written."""
+    def text_at(self, path: bytes, written: Written, give_part: GivePart) -> Optional[Bytes]:
+        """The text at a path in UTF-8, or what follows the parts of it that were given. These may stand in the room that it is
+        lent, after what was written."""
 
 
 class Unreadable(Exception):
@@ -94,7 +98,7 @@ class Disk:
         self._line = line_bytes
         self._tells_files = tells_files
 
-    def text_at(self, path: bytes, written: Written) -> Union[bytes, Part, None]:
+    def text_at(self, path: bytes, written: Written, give_part: GivePart) -> Optional[bytes]:
         if LF in path:
             return None
         if NUL in path:
@@ -108,7 +112,7 @@ class Disk:
                 return None
             raise Unreadable(error, False) from error
         try:
-            return self._text(file, written)
+            return self._text(file, written, give_part)
         except OSError as error:
             if error.errno is None:
                 raise
@@ -116,7 +120,7 @@ class Disk:
         finally:
             os.close(file)
 
-    def _text(self, file: int, written: Written) -> Union[bytes, Part]:
+    def _text(self, file: int, written: Written, give_part: GivePart) -> bytes:
         """What a run can use of an open file, which may grow meanwhile."""
         self.file = None
         if not self._tells_files:
@@ -134,21 +138,22 @@ class Disk:
                 if len(text) == told.st_size or not os.read(file, 1):
                     return text
                 os.lseek(file, 0, os.SEEK_SET)
-        return self._large_text(file, told.st_size, written)
+        self._give_large(file, told.st_size, written, give_part)
+        return b""
 
-    def _large_text(self, file: int, size: int, written: Written) -> Part:
-        """The same of a large file, or of one whose size isn't known: it is read into the room after what was written."""
+    def _give_large(self, file: int, size: int, written: Written, give_part: GivePart) -> None:
+        """Gives the same of a large file, or of one whose size isn't known, part by part while it is read."""
+        size = min(size, self._most)
         length = line = 0
         while length < self._most and line <= self._line:
-            room = min(roomy(max(size, length)), self._most)
-            place = written.end(room) + length
-            count = os.readv(file, [memoryview(_part.from_address(place))[: room - length]])
+            place = written.end(PART)
+            count = os.readv(file, [memoryview(_part.from_address(place))[: self._most - length]])
             if not count:
                 break
             last = _last(place, LF, count)
             line = place + count - 1 - last if last else line + count
             length += count
-        return Part(written.end(0), length)
+            give_part(place, count, max(size - length, 0))
 
 
 def _small_text(file: int) -> Optional[bytes]:
@@ -191,7 +196,7 @@ class Checked:
         self.file: Optional[FileId] = None
         self._text_at, self._name, self._wanted = text_at, name, wanted
 
-    def text_at(self, path: bytes, written: Written) -> Optional[Bytes]:
+    def text_at(self, path: bytes, written: Written, give_part: GivePart) -> Optional[Bytes]:
         shown = path.decode()
         try:
             text = self._text_at(shown)

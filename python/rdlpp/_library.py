@@ -6,7 +6,7 @@ from typing import Any, Callable, Sequence, Tuple, Union
 
 from ._asked import Bytes
 from ._limits import Limits
-from ._written import Part, Written
+from ._written import Written
 
 WHOLE, STOPPED, BAD_LIMIT, BAD_TEXT, NO_MEMORY, MORE, CLOSED, WANTED, SHORT_MAP, CHANGED = range(10)
 NAME_ROOM = 1024
@@ -114,6 +114,7 @@ reopen_handle = _frequent("rdlpp_reopen", Outcome)
 read_handle = _frequent("rdlpp_read", Outcome)
 read_mapped = _frequent("rdlpp_read_mapped", Mapped)
 give = _frequent("rdlpp_give", ctypes.c_uint32)
+give_part = _declared("rdlpp_give_part", ctypes.c_uint32, _handle, *_buffer, ctypes.c_size_t)
 give_once = _frequent("rdlpp_give_once", ctypes.c_uint32)
 give_absent = _declared("rdlpp_give_absent", ctypes.c_uint32, _handle, *_text)
 give_failed = _declared("rdlpp_give_failed", ctypes.c_uint32, _handle, *_text)
@@ -125,10 +126,8 @@ _fault_text = _declared("rdlpp_fault_text", ctypes.c_size_t, ctypes.c_uint32, *_
 _version = _declared("rdlpp_version", ctypes.c_size_t, *_buffer)
 
 
-def lent(text: Union[bytearray, memoryview, Part]) -> Tuple[Any, int]:
+def lent(text: Union[bytearray, memoryview]) -> Tuple[Any, int]:
     """A text as the pointer and the length that a call takes; it is copied only where its memory can't be lent."""
-    if isinstance(text, Part):
-        return ctypes.c_char_p(text.place), text.length
     view = memoryview(text)
     if view.readonly or not view.c_contiguous or not view.nbytes:
         return bytes(view), view.nbytes

@@ -112,8 +112,7 @@ class Reading:
     def _go_on(self, outcome: library.Outcome, written: Written) -> None:
         """Counts what a read wrote, and does what its outcome asks for, so that the next one goes on.
 
-        Where a source is wanted it tells the library what stands there: a text may stand after what was written, since it is
-        copied.
+        Where a source is wanted it tells the library what stands there.
         """
         written.filled += outcome.length
         status = outcome.status
@@ -124,7 +123,7 @@ class Reading:
         path, asked = self._handle.buffers[: outcome.name_length], self._asked
         self._given += len(path) + BESIDE
         try:
-            text = asked.text_at(path, written)
+            text = asked.text_at(path, written, self._give_part)
         except Unreadable as unreadable:
             self._unreadable = path.decode(), unreadable
             if unreadable.is_open:
@@ -144,6 +143,11 @@ class Reading:
         status = give(handle.at, path, handle.path_length, place, handle.text_length)
         if status != library.WHOLE and status != library.CHANGED:
             _raise_refusal(status)
+
+    def _give_part(self, place: int, length: int, more: int) -> None:
+        """Gives the library a part of a text, which is copied."""
+        _raise_refusal(library.give_part(self._handle.at, place, length, more))
+        self.text_bytes += length
 
     def _end(self, outcome: library.Outcome) -> None:
         """Takes the outcome that ends an output."""

@@ -6,7 +6,7 @@ else has it, and gives it another length by `_PyBytes_Resize`; so it is here, by
 
 import ctypes
 import sys
-from typing import NamedTuple, cast
+from typing import cast
 
 if sys.implementation.name != "cpython":
     raise ImportError(f"rdlpp needs CPython, whose bytes objects it writes to, and this is {sys.implementation.name}")
@@ -38,19 +38,12 @@ BESIDE = 128
 
 
 def roomy(length: int) -> int:
-    """The room for an output of about this length, or for a text of which more may come.
+    """The room for an output of about this length.
 
     It is more than the library's copy of such a text has left at the end of malloc's heap, so that it stands apart:
     a heap that both stand in is cut back and made anew by each call.
     """
     return length + length // 16 + MARGIN
-
-
-class Part(NamedTuple):
-    """Bytes that stand at an address."""
-
-    place: int
-    length: int
 
 
 class Written:
