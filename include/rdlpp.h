@@ -289,12 +289,12 @@ rdlpp_outcome rdlpp_read(
     char *word, size_t word_length);
 
 /*
- * Tells a handle the text of the source at `path`, which is copied. A path that wasn't asked for is kept
- * for later. The first that is told of a path counts, also one of `texts`: a later one changes nothing. Of
+ * Tells a handle the text of the source at `path`, which is copied; the parts that rdlpp_give_part gave before stand in
+ * front of it. A path that wasn't asked for is kept for later. The first that is told of a path counts, also one of `texts`: a later one changes nothing. Of
  * a handle that doesn't ask everything is told from the start.
  *
  * The answer is RDLPP_WHOLE; RDLPP_BAD_TEXT where `path` isn't UTF-8, RDLPP_NO_MEMORY where memory was
- * refused, and RDLPP_CLOSED where the handle is closed: with these nothing changed.
+ * refused, and RDLPP_CLOSED where the handle is closed: with these nothing changed, but that no part is left.
  */
 uint32_t rdlpp_give(
     rdlpp_handle *handle,
@@ -306,8 +306,8 @@ uint32_t rdlpp_give(
  * behind it, as behind the parts before it. So a file is given while it is read, and the last call may give no more
  * bytes. `more` is about how many bytes will follow, for which memory is asked at once; it may be 0.
  *
- * The parts belong to the next source that is told, by one of these two calls or by the two that follow, whatever its
- * answer: none is left then.
+ * The parts belong to the next source that is told, by rdlpp_give, rdlpp_give_once, rdlpp_give_absent or
+ * rdlpp_give_failed, whatever the answer: none is left then.
  *
  * The answer is RDLPP_WHOLE; RDLPP_NO_MEMORY where memory was refused, and RDLPP_CLOSED where the handle is closed: with
  * these nothing changed.

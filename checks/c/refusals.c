@@ -204,6 +204,36 @@ static rdlpp_outcome pull_parts(char *out, size_t room)
     return pull_by(give_parts, out, room);
 }
 
+/* Memory for the bytes that are told to follow a part is asked for with it: these parts ask for none. One that is refused changes
+ * nothing. */
+static int reserves(void)
+{
+    static char part[600], longer[5000], out[1100];
+    rdlpp_request request = asked();
+    rdlpp_handle handle = RDLPP_CLOSED_HANDLE;
+    rdlpp_outcome outcome;
+    char none[1] = {'#'};
+    int is_right;
+    memset(part, 'a', sizeof part);
+    request.asks = true;
+    request.texts_length = 0;
+    is_right = rdlpp_open(&request, none, 0, none, 0, &handle).status == RDLPP_WHOLE
+        && rdlpp_give_part(&handle, part, 1, 999) == RDLPP_WHOLE;
+    granted = 0;
+    is_right = is_right && rdlpp_give_part(&handle, part, 500, 0) == RDLPP_WHOLE
+        && rdlpp_give_part(&handle, part, 499, 0) == RDLPP_WHOLE
+        && rdlpp_give_part(&handle, longer, sizeof longer, 0) == RDLPP_NO_MEMORY
+        && rdlpp_give_part(&handle, part, 1, sizeof longer) == RDLPP_NO_MEMORY
+        && rdlpp_give_part(&handle, part, 1, SIZE_MAX) == RDLPP_NO_MEMORY;
+    granted = -1;
+    is_right = is_right && rdlpp_give(&handle, request.path, request.path_length, "", 0) == RDLPP_WHOLE;
+    outcome = rdlpp_read(&handle, out, sizeof out, none, 0, none, 0);
+    is_right = is_right && outcome.status == RDLPP_WHOLE && outcome.length == 1000 && out[0] == 'a'
+        && memcmp(out, out + 1, 999) == 0;
+    rdlpp_close(&handle);
+    return is_right && blocks == 0;
+}
+
 /* Gives two texts once each, and the second again until it is taken: a refusal leaves its path as it was, and keeps nothing. */
 static long give_again(void)
 {
@@ -281,6 +311,6 @@ static int reopens(void)
 int main(void)
 {
     return refuse_each(call) > 8 && refuse_each(read_all) > 8 && refuse_each(pull_all) > 8
-            && refuse_each(pull_once) > 8 && refuse_each(pull_parts) > 8 && refuse_each(open_twice) > 16 && give_again() > 4 && reopens()
+            && refuse_each(pull_once) > 8 && refuse_each(pull_parts) > 8 && refuse_each(open_twice) > 16 && give_again() > 4 && reopens() && reserves()
         ? EXIT_SUCCESS : EXIT_FAILURE;
 }
