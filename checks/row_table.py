@@ -1,8 +1,9 @@
 """The rows of crates/rdlpp_rows/data: texts, the words of a command line, and what must come of them.
 
 A row's lines are `row NAME`, `words WORD ..`, `file PATH TEXT` with the main text first, `files COUNT PATH TEXT` for
-numbered ones, `output TEXT`, `fault LINE`, `held DEFINITIONS ARGUMENTS` and `memory`, which says that the row is one of
-texts in memory alone. Texts are spelled as `spelled` reads them.
+numbered ones, `output TEXT`, `fault LINE`, and `memory`, which says that the row is one of texts in memory alone. Texts
+are spelled as `spelled` reads them. What an engine holds and asks for is looked at where the rows are run over devices of
+their own (`crates/rdlpp_rows`), and so is each row with such devices.
 """
 
 import pathlib
@@ -69,7 +70,7 @@ class Row:
 
     def __init__(self, lines):
         self.name, self.words, self.files, self.output, self.fault = "", [], {}, b"", b""
-        self.is_in_memory = False
+        self.is_in_memory = self.has_devices = False
         for line in lines:
             field, _, rest = line.partition(" ")
             getattr(self, "read_" + field)(rest)
@@ -97,7 +98,19 @@ class Row:
         self.fault = spelled(rest)
 
     def read_held(self, rest):
-        """What an engine holds is looked at where the rows are run by pieces."""
+        """What an engine holds at the end."""
+
+    def read_piece(self, rest):
+        """What an engine holds at a piece."""
+
+    def read_asked(self, rest):
+        """How often sources and a writer are asked."""
+
+    def read_found(self, rest):
+        self.has_devices = True
+
+    def read_devices(self, rest):
+        self.has_devices = True
 
     def read_memory(self, rest):
         self.is_in_memory = True
@@ -123,4 +136,6 @@ def read_rows(file):
             yield Row(lines)
 
 
-ROWS = [row for file in sorted(DATA.glob("*.rows")) for row in read_rows(file)]
+# Each row, and those that need no devices of their own, which the scripts run.
+ALL_ROWS = [row for file in sorted(DATA.glob("*.rows")) for row in read_rows(file)]
+ROWS = [row for row in ALL_ROWS if not row.has_devices]

@@ -1,4 +1,5 @@
 // What is checked of each row.
+use crate::asking::asks_as_wanted;
 use crate::devices::{Devices, SLOW, WHOLE};
 use crate::pieces::has_its_pieces;
 use crate::renewed::comes_to_the_same_behind;
@@ -52,8 +53,9 @@ pub fn failed_check(
         files: files.as_slice(),
         folders: folders.as_slice(),
     };
-    if let Some(check) = failed_job(alloc, &job)? {
-        return Ok(Some(check));
+    let failed = failed_job(alloc, &job)?;
+    if failed.is_some() || row.devices.is_some() {
+        return Ok(failed);
     }
     if !comes_to_the_same_behind(alloc, &before, &job)? {
         return Ok(Some("in a renewed engine"));
@@ -98,11 +100,17 @@ fn invocation_of(alloc: Global, row: &Row) -> Result<Option<Invocation>, AllocEr
 
 // What isn't as it has to be with a row whose words were read.
 fn failed_job(alloc: Global, job: &Job<'_>) -> Result<Option<&'static str>, AllocError> {
-    if !preprocess_row(alloc, job, WHOLE)?.is_wanted(job.row) {
+    if !preprocess_row(alloc, job, job.row.devices.unwrap_or(WHOLE))?.is_wanted(job.row) {
         return Ok(Some("run whole"));
+    }
+    if job.row.devices.is_some() {
+        return Ok(None);
     }
     if !preprocess_row(alloc, job, SLOW)?.is_wanted(job.row) {
         return Ok(Some("by one byte a read and one byte a write"));
+    }
+    if !asks_as_wanted(alloc, job)? {
+        return Ok(Some("what it asks for"));
     }
     if !has_its_pieces(alloc, job)? {
         return Ok(Some("piece by piece"));

@@ -1,4 +1,5 @@
 // Sources and a writer that take a few bytes at a time, and fail from a chosen call on.
+use arrayvec::ArrayString;
 use rdlpp::{Found, SourceFault, Sources, Texts};
 use rdlpp_source::TextReader;
 use std::io::{self, ErrorKind, Write};
@@ -18,6 +19,8 @@ pub struct Devices {
     pub takes_nothing: bool,
     /// How many flushes go well.
     pub flushes: u64,
+    /// The byte that comes for ever behind each text, where one does.
+    pub endless: Option<u8>,
 }
 
 /// Devices that take everything at once, and never fail.
@@ -28,6 +31,7 @@ pub const WHOLE: Devices = Devices {
     writes: u64::MAX,
     takes_nothing: false,
     flushes: u64::MAX,
+    endless: None,
 };
 
 /// Devices that take one byte at a time, and never fail.
@@ -38,6 +42,8 @@ pub const SLOW: Devices = Devices { step: 1, ..WHOLE };
 pub struct DealtTexts<'a> {
     /// The texts.
     pub texts: Texts<'a>,
+    /// The path that the main text is found under, where it is another one than the one that is asked for.
+    pub found: Option<&'a str>,
     /// What is left of the devices.
     pub devices: Devices,
     /// How often a search or a read failed.
@@ -66,7 +72,13 @@ impl<'a> Sources for DealtTexts<'a> {
             return Err(SourceFault::Device);
         }
         self.devices.searches -= 1;
-        self.texts.top(path)
+        match self.texts.top(path) {
+            Ok(found) => Ok(Found {
+                path: shown_path(self.found, found.path),
+                reader: found.reader,
+            }),
+            Err(fault) => Err(fault),
+        }
     }
 
     fn find(&mut self, from: &str, name: &str) -> Result<Found<TextReader<'a>>, SourceFault> {
@@ -85,7 +97,22 @@ impl<'a> Sources for DealtTexts<'a> {
         }
         self.devices.reads -= 1;
         let most = to.len().min(self.devices.step);
-        self.texts.read(reader, &mut to[..most])
+        let len = self.texts.read(reader, &mut to[..most])?;
+        match self.devices.endless {
+            Some(byte) if len == 0 => {
+                to[..most].fill(byte);
+                Ok(most)
+            }
+            _ => Ok(len),
+        }
+    }
+}
+
+// The path that a text is found under: another one, where there is one, or its own.
+fn shown_path(other: Option<&str>, path: ArrayString<1024>) -> ArrayString<1024> {
+    match other {
+        Some(other) => ArrayString::from(other).unwrap_or(path),
+        None => path,
     }
 }
 
@@ -96,6 +123,8 @@ pub struct DealtWriter {
     pub taken: Vec<u8>,
     /// How many bytes each write took.
     pub lens: Vec<usize>,
+    /// How often it was flushed.
+    pub flushes: u64,
     /// What is left of the devices.
     pub devices: Devices,
 }
@@ -116,6 +145,7 @@ impl Write for DealtWriter {
     }
 
     fn flush(&mut self) -> io::Result<()> {
+        self.flushes = self.flushes.saturating_add(1);
         if self.devices.flushes == 0 {
             return Err(io::Error::from(ErrorKind::BrokenPipe));
         }

@@ -4,20 +4,25 @@
 //! by piece, each of them one write of a run; in an engine that ran the row before it, whole or up to a fault or a piece, and was
 //! renewed; and where its texts are short, cut short after each byte, and with each search, read, write and flush failing in turn.
 //! It prints a line for each row that isn't as it has to be, and then how many are and aren't. The same rows are run by the scripts
-//! of `checks`.
+//! of `checks`. What no row can say is checked with them: when a sink writes, and how an output goes on that stopped.
 #![tactic(auto)]
 
 ghost use Rattle.std.specs.Prelude.{◌≡◌, ◌↔◌, ◌<◌};
 
+mod asking;
 mod checks;
 mod devices;
+mod gathering;
 mod pieces;
 mod renewed;
+mod resuming;
 mod row;
 mod runs;
 mod spelling;
 
 use checks::failed_check;
+use gathering::failed_gathering;
+use resuming::failed_resuming;
 use row::{RowFault, rows_of};
 use std::alloc::AllocError;
 use std::process::ExitCode;
@@ -70,7 +75,22 @@ fn check_files(rt: &HostRuntime) -> Option<Tally> {
         let text = fs::read_to_string(rt, word.as_str()).ok()?;
         check_file(rt, word.as_str(), text.as_str(), &mut tally).ok()?;
     }
+    check_rest(rt, &mut tally).ok()?;
     Some(tally)
+}
+
+// Checks what no row can say.
+fn check_rest(rt: &HostRuntime, tally: &mut Tally) -> Result<(), AllocError> {
+    for failed in [failed_gathering(rt.alloc())?, failed_resuming(rt.alloc())?] {
+        match failed {
+            None => tally.passed = tally.passed.saturating_add(1),
+            Some(check) => {
+                let _told = println!(rt; "not so: {check}");
+                tally.failed = tally.failed.saturating_add(1);
+            }
+        }
+    }
+    Ok(())
 }
 
 // Checks the rows of a file, and tells each that isn't as it has to be.

@@ -1,5 +1,6 @@
 // A row, pulled piece by piece.
 use crate::devices::{DealtTexts, WHOLE};
+use crate::row::HeldPiece;
 use crate::runs::{Job, engine_of, keeps_end, line_of, run_row};
 use rdlpp::Limits;
 use rdlpp_expand::{Engine, Held, Piece};
@@ -54,15 +55,18 @@ pub fn has_its_pieces(alloc: Global, job: &Job<'_>) -> Result<bool, AllocError> 
         output: job.row.output.as_slice(),
         lens: ran.lens.as_slice(),
     };
+    let mut met = 0_usize;
     for _ in 0..MOST_PIECES {
         if engine.is_fresh() {
             return Ok(false);
         }
+        let mut first = None;
         let end = match engine.next() {
             Ok(Piece::Bytes(bytes)) => {
                 if !left.take(bytes) {
                     return Ok(false);
                 }
+                first = bytes.first().copied();
                 None
             }
             Ok(Piece::Done) => Some(Vec::new(alloc)),
@@ -71,9 +75,16 @@ pub fn has_its_pieces(alloc: Global, job: &Job<'_>) -> Result<bool, AllocError> 
         if !is_within(&engine.held(), &job.invocation.options.limits) {
             return Ok(false);
         }
+        if let Some(wanted) = wanted_at(job.row.pieces.as_slice(), first) {
+            if counts_of(&engine.held()) != wanted {
+                return Ok(false);
+            }
+            met = met.saturating_add(1);
+        }
         if let Some(line) = end {
             return Ok(
                 left.is_empty()
+                    && met == job.row.pieces.len()
                     && line.as_slice() == job.row.fault.as_slice()
                     && holds_what_it_wants(&engine, job)
                     && keeps_end(alloc, &mut engine, line.as_slice())?,
@@ -81,6 +92,28 @@ pub fn has_its_pieces(alloc: Global, job: &Job<'_>) -> Result<bool, AllocError> 
         }
     }
     Ok(false)
+}
+
+// What is wanted to be held at a piece that begins with such a byte.
+fn wanted_at(pieces: &[HeldPiece], first: Option<u8>) -> Option<[usize; 6]> {
+    for piece in pieces {
+        if Some(piece.first) == first {
+            return Some(piece.held);
+        }
+    }
+    None
+}
+
+// What is held, as a row has it.
+fn counts_of(held: &Held) -> [usize; 6] {
+    [
+        held.definitions,
+        held.arguments,
+        held.cursors,
+        held.bindings,
+        held.sources,
+        held.conditions,
+    ]
 }
 
 // Whether an engine holds the definitions and arguments that its row wants at its end.

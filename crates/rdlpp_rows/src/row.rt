@@ -8,9 +8,16 @@
 //     output TEXT                   the output
 //     fault LINE                    the line that reports the fault that ends it
 //     held DEFINITIONS ARGUMENTS    how many bytes of each are held at its end
+//     piece BYTE NUMBERS            what is held at a piece that begins with this byte: the bytes of the definitions and of the
+//                                   arguments, and how many texts of macros, actuals, sources and conditionals are open
+//     asked SEARCHES READS FLUSHES  how often its texts are searched and read, a byte a read, and its output is flushed
+//     found PATH                    the main text is found under another path than the one that is asked for
+//     devices searches COUNT        so many searches go well, and the later ones fail; also `reads COUNT` and `writes COUNT`, and
+//                                   `endless BYTE`, a byte by its number, which comes for ever behind each text. It is run so alone
 //     memory                        the row is one of texts in memory: the scripts over files leave it out
 //
 // A word, a path and a text are spelled as `spelled` reads them.
+use crate::devices::{Devices, WHOLE};
 use crate::spelling::{numbered, spelled};
 use std::alloc::{AllocError, AllocFailed, Global};
 
@@ -29,6 +36,23 @@ pub struct Row {
     pub fault: Vec<u8>,
     /// The bytes of the definitions and of the arguments that are held at its end, where the row has them.
     pub held: Option<(usize, usize)>,
+    /// What is held at pieces.
+    pub pieces: Vec<HeldPiece>,
+    /// How often its texts are searched and read, a byte a read, and its output is flushed, where the row has it.
+    pub asked: Option<(u64, u64, u64)>,
+    /// The path that its main text is found under, where it is another one than the one that is asked for.
+    pub found: Option<String>,
+    /// The devices that it is run by alone, where some fail or have no end.
+    pub devices: Option<Devices>,
+}
+
+/// What is held at a piece.
+#[derive(Clone, Copy, Drop)]
+pub struct HeldPiece {
+    /// The byte that the piece begins with.
+    pub first: u8,
+    /// The bytes of the definitions and of the arguments, and how many texts of macros, actuals, sources and conditionals are open.
+    pub held: [usize; 6],
 }
 
 /// Why a text isn't one of rows.
@@ -77,6 +101,10 @@ fn empty_row(alloc: Global) -> Row {
         output: Vec::new(alloc),
         fault: Vec::new(alloc),
         held: None,
+        pieces: Vec::new(alloc),
+        asked: None,
+        found: None,
+        devices: None,
     }
 }
 
@@ -97,7 +125,11 @@ fn read_line(alloc: Global, row: &mut Row, line: &str) -> Result<(), RowFault> {
             row.fault = spelled(alloc, rest)?;
             row.fault.push(b'\n')?;
         }
-        "held" => row.held = Some(numbers_of(rest)?),
+        "held" => row.held = Some(two_numbers(rest)?),
+        "piece" => row.pieces.push(held_piece(rest)?)?,
+        "asked" => row.asked = Some(asked_of(rest)?),
+        "found" => row.found = Some(text_of(alloc, rest)?),
+        "devices" => row.devices = Some(devices_of(rest)?),
         "memory" => {}
         _ => return Err(RowFault::BadLine),
     }
@@ -125,12 +157,69 @@ fn add_files(alloc: Global, row: &mut Row, rest: &str) -> Result<(), RowFault> {
 }
 
 // Two numbers.
-fn numbers_of(text: &str) -> Result<(usize, usize), RowFault> {
-    let (first, second) = text.split_once(' ').unwrap_or((text, ""));
-    match (first.parse::<usize>(), second.parse::<usize>()) {
-        (Ok(first), Ok(second)) => Ok((first, second)),
-        (_, _) => Err(RowFault::BadLine),
+fn two_numbers(text: &str) -> Result<(usize, usize), RowFault> {
+    match numbers_of(text)? {
+        [first, second, 0, 0, 0, 0] => Ok((first, second)),
+        _ => Err(RowFault::BadLine),
     }
+}
+
+// How often texts are searched and read, and an output is flushed.
+fn asked_of(text: &str) -> Result<(u64, u64, u64), RowFault> {
+    match numbers_of(text)? {
+        [searches, reads, flushes, 0, 0, 0] => Ok((searches as u64, reads as u64, flushes as u64)),
+        _ => Err(RowFault::BadLine),
+    }
+}
+
+// What is held at a piece.
+fn held_piece(text: &str) -> Result<HeldPiece, RowFault> {
+    match text.split_once(' ') {
+        Some((first, numbers)) => Ok(HeldPiece {
+            first: first.as_bytes().first().copied().unwrap_or(0),
+            held: numbers_of(numbers)?,
+        }),
+        None => Err(RowFault::BadLine),
+    }
+}
+
+// Devices of which so many calls of a kind go well, or whose texts go on with a byte.
+fn devices_of(text: &str) -> Result<Devices, RowFault> {
+    let (kind, count) = text.split_once(' ').unwrap_or((text, ""));
+    let Ok(calls) = count.parse::<u64>() else {
+        return Err(RowFault::BadLine);
+    };
+    match kind {
+        "searches" => Ok(Devices {
+            searches: calls,
+            ..WHOLE
+        }),
+        "reads" => Ok(Devices {
+            reads: calls,
+            ..WHOLE
+        }),
+        "writes" => Ok(Devices {
+            writes: calls,
+            ..WHOLE
+        }),
+        "endless" => Ok(Devices {
+            endless: u8::try_from(calls).ok(),
+            ..WHOLE
+        }),
+        _ => Err(RowFault::BadLine),
+    }
+}
+
+// Up to six numbers, and 0 for each further one.
+fn numbers_of(text: &str) -> Result<[usize; 6], RowFault> {
+    let mut numbers = [0; 6];
+    for (place, word) in text.split(' ').enumerate() {
+        match (numbers.get_mut(place), word.parse::<usize>()) {
+            (Some(number), Ok(read)) => *number = read,
+            (_, _) => return Err(RowFault::BadLine),
+        }
+    }
+    Ok(numbers)
 }
 
 // A spelled text that is text.

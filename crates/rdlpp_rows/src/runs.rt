@@ -30,7 +30,7 @@ pub struct Ended {
     pub fault: Vec<u8>,
     /// The kind of that fault.
     pub kind: Option<FaultKind>,
-    /// Whether the count of bytes written is that of the output, and the end stayed as it was.
+    /// Whether the count of bytes written is that of the output, no write had none, and the end stayed as it was.
     pub is_sound: bool,
 }
 
@@ -60,6 +60,7 @@ pub fn preprocess_row(alloc: Global, job: &Job<'_>, devices: Devices) -> Result<
     let DealtWriter {
         taken: output,
         lens,
+        flushes: _,
         devices: _,
     } = sink.into_writer();
     let (fault, kind, written) = match &outcome {
@@ -72,7 +73,7 @@ pub fn preprocess_row(alloc: Global, job: &Job<'_>, devices: Devices) -> Result<
         Err(_) => return Err(AllocError),
     };
     Ok(Ended {
-        is_sound: written == output.len() as u64,
+        is_sound: written == output.len() as u64 && !lens.as_slice().contains(&0),
         output,
         lens,
         fault,
@@ -157,6 +158,7 @@ pub fn run_engine(
     let DealtWriter {
         taken: output,
         lens,
+        flushes: _,
         devices: _,
     } = sink.into_writer();
     let line = match &fault {
@@ -165,7 +167,7 @@ pub fn run_engine(
     };
     let is_kept = keeps_end(alloc, engine, line.as_slice())?;
     Ok(Some(Ended {
-        is_sound: is_kept && written == output.len() as u64,
+        is_sound: is_kept && written == output.len() as u64 && !lens.as_slice().contains(&0),
         output,
         lens,
         fault: line,
@@ -212,16 +214,21 @@ pub fn sources_of<'a>(job: &Job<'a>, devices: Devices) -> DealtTexts<'a> {
             files: job.files,
             folders: job.folders,
         },
+        found: match &job.row.found {
+            Some(path) => Some(path.as_str()),
+            None => None,
+        },
         devices,
         failures: 0,
     }
 }
 
-// A writer by such devices.
-fn writer_of(alloc: Global, devices: Devices) -> DealtWriter {
+/// A writer by such devices.
+pub fn writer_of(alloc: Global, devices: Devices) -> DealtWriter {
     DealtWriter {
         taken: Vec::new(alloc),
         lens: Vec::new(alloc),
+        flushes: 0,
         devices,
     }
 }
