@@ -31,7 +31,7 @@ run: ## show the worked examples with their output, in two minutes: by out/rdlpp
 
 # The gate takes no links, of which the library for C has two; `checks/from_gate` makes them anew. `make test anew=--anew` takes
 # nothing that earlier gates kept on this machine.
-test: ## the gate (every proof, the must-fail edits, the tests, the stored runs), and then the checks over what it built
+test: ## the gate (every proof, the must-fail edits, the stored runs), and then the checks over what it built
 	@rm -f out/$(shared) out/$(shared).*
 	@checks/gate $(anew)
 	@checks/all
