@@ -3,9 +3,9 @@
 use Rattle.std.specs.Prelude.{◌≡◌, ℕ, ◌+◌, List, [], ◌∷◌, String, codes, Result, Ok, Err}
 use Rattle.std.specs.String.{string_bytes}
 use Rattle.std.specs.declared.alloc.Global.{Global}
-use Rattle.rdlpp_table.specs.Table.{Macro}
-use Rattle.rdlpp_table.specs.Define.{Accepted, DefinedFault, set_of}
-use Rattle.rdlpp_table.specs.declared.fault.DefineKind.{DefineKind}
+use Rattle.rdlpp_define.specs.Macros.{Macro}
+use Rattle.rdlpp_table.specs.Stored.{Accepted, DefinedFault, set_of}
+use Rattle.rdlpp_define.specs.declared.fault.DefineKind.{DefineKind}
 use Rattle.rdlpp_meaning.specs.Outcome.{Report, report_of}
 use Rattle.rdlpp_state.specs.Engine.{EngineView}
 use Rattle.rdlpp_meaning.specs.Profile.{define_fault}

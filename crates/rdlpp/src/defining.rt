@@ -8,7 +8,7 @@ ghost use Rattle.rdlpp.specs.Definitions.{AreGiven, refused_definition, with_mac
 use arrayvec::ArrayString;
 use rdlpp_expand::{Engine, Fault, Reading, RunFault, fault_kind};
 use rdlpp_source::Sources;
-use rdlpp_table::DefineFault;
+use rdlpp_define::DefineFault;
 
 /// Defines macros in a fresh engine, in order.
 ///

@@ -56,7 +56,8 @@ use rdlpp_state::{
     Halt, Held, Marks, Pending, PendingPart, PendingPiece, Phase, Piece, PieceLocation, copied,
     copied_fault, fault_kind,
 };
-use rdlpp_table::{Limits, Table, word_of};
+use rdlpp_define::word_of;
+use rdlpp_table::{Limits, Table};
 use rdlpp_texts::{CursorFault, TextPlace};
 use rdlpp_usages::Expansion;
 use std::alloc::Global;

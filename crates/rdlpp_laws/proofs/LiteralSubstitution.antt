@@ -2,7 +2,7 @@
 use Rattle.std.proofs.Common.{◌≡◌, ℕ, Bool, true, false, List, [], ◌∷◌, ◌++◌, refl, ap, ◌∙◌, arith, map, Option, None, Some, flat_map, option_map, if◌then◌else◌, unwrap_or}
 use Rattle.rdlpp_scan.specs.SourceTokens.{Ordinary, Sort, SourceToken}
 use Rattle.rdlpp_scan.specs.declared.token.Kind.TheVariants.{Name}
-use Rattle.rdlpp_table.specs.Table.{Formal, Macro}
+use Rattle.rdlpp_define.specs.Macros.{Formal, Macro}
 use Rattle.rdlpp_meaning.specs.Expansion.{bytes_of}
 use Rattle.rdlpp_meaning.specs.Items.{Item, Written, packed}
 use Rattle.rdlpp_laws.specs.Literal.{all_erased, bytes_for, erased, formals_bytes, in_place, literal, standing_bytes}

@@ -4,7 +4,7 @@ use Rattle.std.specs.Prelude.{ℕ, List, [], ◌∷◌, ◌++◌, bytes_eq, Opti
 use Rattle.std.specs.List.{flat_map}
 use Rattle.rdlpp_scan.specs.declared.token.Kind.TheVariants.{Name}
 use Rattle.rdlpp_scan.specs.SourceTokens.{Ordinary, SourceToken}
-use Rattle.rdlpp_table.specs.Table.{Formal}
+use Rattle.rdlpp_define.specs.Macros.{Formal}
 use Rattle.rdlpp_meaning.specs.Items.{Item, Items, Nothing, More, Written, Arg}
 use Rattle.rdlpp_meaning.specs.Substitution.{Standing, Given, Defaulted, standing_of}
 

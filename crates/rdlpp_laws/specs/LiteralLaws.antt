@@ -2,7 +2,7 @@
 -- A definition that names no source is this project's own.
 use Rattle.std.specs.Prelude.{◌≡◌, ℕ, List, [], unwrap_or}
 use Rattle.std.specs.List.{flat_map}
-use Rattle.rdlpp_table.specs.Table.{Macro}
+use Rattle.rdlpp_define.specs.Macros.{Macro}
 use Rattle.rdlpp_meaning.specs.Items.{Item}
 use Rattle.rdlpp_meaning.specs.Substitution.{body_tokens, substituted}
 use Rattle.rdlpp_meaning.specs.Expansion.{bytes_of}

@@ -9,7 +9,7 @@ use Rattle.rdlpp_scan.specs.Ordinary.{IsPlainToken, is_plain_kind}
 use Rattle.rdlpp_scan.specs.SourceTokens.{Ordinary, Sort, SourceToken}
 use Rattle.rdlpp_scan.specs.declared.token.Kind.{Kind}
 use Rattle.rdlpp_scan.specs.declared.token.Kind.TheVariants.{Back, BareBackquote, BlockComment, LineComment, Perl, Str}
-use Rattle.rdlpp_table.specs.Table.{Macro}
+use Rattle.rdlpp_define.specs.Macros.{Macro}
 use Rattle.rdlpp_meaning.specs.Expansion.{is_copied}
 use Rattle.rdlpp_meaning.specs.Meaning.{Holds, IncludedMeaning, Passage, Progress, TestFault, Test, begun, after_bytes, by_test, goes_on, in_conditional, leaves, mean, mean_branches, mean_part, included_meaning_of, opening, origin_line, outcome, past_conditional, refusal, skip, skip_branches, skip_part, skipped_command, text_meaning, turn, turned, unclosed}
 use Rattle.rdlpp_meaning.specs.Outcome.{Outcome, Report, and_then, fails, gives}

@@ -2,7 +2,7 @@
 -- A definition that names no source is this project's own.
 use Rattle.std.specs.Prelude.{ℕ, Bool, nat_le, List, length, take, Some, if◌then◌else◌}
 use Rattle.rdlpp_table.specs.declared.limits.Limits.{Limits}
-use Rattle.rdlpp_table.specs.Table.{Macro}
+use Rattle.rdlpp_define.specs.Macros.{Macro}
 use Rattle.rdlpp_meaning.specs.declared.fault.FaultKind.TheVariants.{OutputBytes}
 use Rattle.rdlpp_meaning.specs.Outcome.{Report, Outcome}
 use Rattle.rdlpp_meaning.specs.State.{Lookup, Rules}

@@ -3,9 +3,9 @@
 use Rattle.std.specs.Prelude.{ℕ, Bool, List}
 use Rattle.rdlpp_scan.specs.SourceTokens.{whole_tokens}
 use Rattle.rdlpp_table.specs.declared.limits.Limits.{Limits}
-use Rattle.rdlpp_table.specs.declared.fault.DefineKind.{DefineKind}
-use Rattle.rdlpp_table.specs.declared.fault.DefineKind.TheVariants as kind
-use Rattle.rdlpp_table.specs.Define.{Defined as TableDefined, Accepted as TableAccepted, DefinedFault as TableRefused, define_of}
+use Rattle.rdlpp_define.specs.declared.fault.DefineKind.{DefineKind}
+use Rattle.rdlpp_define.specs.declared.fault.DefineKind.TheVariants as kind
+use Rattle.rdlpp_table.specs.Stored.{Defined as TableDefined, Accepted as TableAccepted, DefinedFault as TableRefused, define_of}
 use Rattle.rdlpp_meaning.specs.declared.fault.FaultKind.{FaultKind}
 use Rattle.rdlpp_meaning.specs.declared.fault.FaultKind.TheVariants as fault
 use Rattle.rdlpp_meaning.specs.State.{Defined, Accepted, DefinitionFault, Lookup, Rules}

@@ -12,8 +12,9 @@ use Rattle.std.proofs.lemmas.List.Folds.{flat_map-map}
 use Rattle.std.proofs.lemmas.List.Quantifiers.{position-Some}
 use Rattle.std.proofs.lemmas.Map.Keys.{apart_from_distinct}
 use Rattle.std.proofs.lemmas.Slice.Eq.{bytes_eq-Decides}
-use Rattle.rdlpp_table.specs.Table.{Formal, Macro, default_bytes, formal_bytes, macro_bytes}
-use Rattle.rdlpp_table.specs.View.{formals_of, macro_at}
+use Rattle.rdlpp_define.specs.Macros.{Formal, Macro, default_bytes, formal_bytes, formals_of}
+use Rattle.rdlpp_table.specs.Table.{macro_bytes}
+use Rattle.rdlpp_table.specs.View.{macro_at}
 use Rattle.rdlpp_table.proofs.Orders.{position_is}
 use Rattle.rdlpp_reports.specs.Definitions.{BeginsWith, continued, definition_line, ends_in_slash, ends_name, formal_part, formal_text, formals_text, list_text, marked_text}
 use Rattle.rdlpp_reports.specs.Dependencies.{empty_rule, included, prerequisite, quote, rule_name}

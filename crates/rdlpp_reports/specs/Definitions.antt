@@ -3,7 +3,7 @@
 use Rattle.std.specs.Prelude.{◌≡◌, ℕ, ◌+◌, Bool, List, [], ◌∷◌, ◌++◌, ◌==◌, ◌-◌, ◌||◌, codes, length, nat_lt, slice_index, Option, None, Some, if◌then◌else◌}
 use Rattle.std.specs.List.{concat, flat_map, prefix_len}
 use Rattle.rdlpp_scan.specs.Bytes.{is_word}
-use Rattle.rdlpp_table.specs.Table.{Formal, Macro}
+use Rattle.rdlpp_define.specs.Macros.{Formal, Macro}
 
 -- a byte of a text: an LF stands behind a `\` (IEEE 1364-2001, `define`)
 abbrev pub continued_byte : ℕ → List ℕ

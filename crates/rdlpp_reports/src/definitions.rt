@@ -4,8 +4,9 @@ ghost use Rattle.std.specs.Option.{option_map_or};
 ghost use Rattle.rdlpp_reports.specs.Definitions.{BeginsWith, continued, continued_byte, definition_line, definition_lines, ends_in_slash, ends_name, formal_part, formals_text, goes_on_name, list_text, marked_text};
 ghost use Rattle.std.specs.List.{flat_map};
 ghost use Rattle.rdlpp_reports.specs.Writes.{Writes};
-ghost use Rattle.rdlpp_table.specs.View.{AreSoundFormals, IsSound, formal_at, formal_named, formals_of, macro_at};
-ghost use Rattle.rdlpp_table.specs.Table.{formal_bytes, macro_bytes};
+ghost use Rattle.rdlpp_define.specs.Macros.{AreSoundFormals, formals_of, formal_bytes};
+ghost use Rattle.rdlpp_table.specs.View.{IsSound, formal_at, formal_named, macro_at};
+ghost use Rattle.rdlpp_table.specs.Table.{macro_bytes};
 
 use crate::writing::{write_parts, write_whole};
 use rdlpp_scan::{byte_at, word_bytes};

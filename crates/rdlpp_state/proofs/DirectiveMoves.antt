@@ -4,7 +4,7 @@ use Rattle.rdlpp_scan.specs.declared.token.Directive.{Directive}
 use Rattle.rdlpp_scan.specs.declared.token.Mode.TheVariants.{Plain}
 use Rattle.rdlpp_source.specs.declared.sources.Found.{Found}
 use Rattle.rdlpp_source.specs.declared.sources.Sources.{Ghosts}
-use Rattle.rdlpp_table.specs.Table.{Macro}
+use Rattle.rdlpp_define.specs.Macros.{Macro}
 use Rattle.rdlpp_meaning.specs.Moves.{Enters, Move, Moves, Stops}
 use Rattle.rdlpp_meaning.specs.Meaning.{NameFault, Progress, after_bytes, origin_line}
 use Rattle.rdlpp_meaning.specs.Resumed.{Place}

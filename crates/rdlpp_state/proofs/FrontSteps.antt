@@ -8,13 +8,14 @@ use Rattle.rdlpp_scan.specs.SourceTokens.{line_ends}
 use Rattle.rdlpp_scan.specs.declared.token.Directive.TheVariants.{Define}
 use Rattle.rdlpp_scan.specs.declared.token.Mode.{Mode}
 use Rattle.rdlpp_scan.specs.declared.token.Mode.TheVariants.{Plain}
-use Rattle.rdlpp_table.specs.Table.{Macro, macro_named}
+use Rattle.rdlpp_define.specs.Macros.{Macro}
+use Rattle.rdlpp_table.specs.Table.{macro_named}
 use Rattle.rdlpp_table.specs.View.{TableView}
 use Rattle.rdlpp_table.specs.declared.limits.Limits.{Limits}
-use Rattle.rdlpp_table.specs.Define.{define_of}
-use Rattle.rdlpp_table.specs.Define as table_define
-use Rattle.rdlpp_table.specs.declared.fault.DefineKind.{DefineKind}
-use Rattle.rdlpp_table.specs.declared.fault.DefineKind.TheVariants as define
+use Rattle.rdlpp_table.specs.Stored.{define_of}
+use Rattle.rdlpp_table.specs.Stored as table_stored
+use Rattle.rdlpp_define.specs.declared.fault.DefineKind.{DefineKind}
+use Rattle.rdlpp_define.specs.declared.fault.DefineKind.TheVariants as define
 use Rattle.rdlpp_meaning.specs.declared.fault.FaultKind.{FaultKind}
 use Rattle.rdlpp_meaning.specs.declared.fault.FaultKind.TheVariants as fault
 use Rattle.rdlpp_meaning.specs.Meaning.{Passage, after_bytes, goes_on, leaves}
@@ -349,7 +350,7 @@ module _ {S R : Type 0} (g : Ghosts S R) (old mid new : EngineView S R) (len : �
       d.becomes ∙ (ap (λ (m : EngineView S R). record m { table = record m.table { macros = d.macros }; files = record m.files { include_stack = with_inner (consumed_file len d.lines) mid.files.include_stack }; pending = line_ends_pending d.lines }) r.becomes
       ∙ (ap (λ (fs : FilesView R). record old { pending = line_ends_pending d.lines; table = record old.table { macros = d.macros }; files = record fs { include_stack = with_inner (consumed_file len d.lines) mid.files.include_stack }; sources = mid.sources }) r.only
       ∙ ap (λ (ns : List (File R)). makes (with_inner (consumed_file len d.lines) ns)) include_stack)) in
-      let accepted : define_of old.limits.definition_bytes old.limits.definitions old.table.macros (drop 7 w) ≡ table_define.Accepted d.macros =
+      let accepted : define_of old.limits.definition_bytes old.limits.definitions old.table.macros (drop 7 w) ≡ table_stored.Accepted d.macros =
       rw (← ready.sound.definition_bytes, ← ready.sound.definitions) (rw table at d.accepted) in
       let pending : line_ends_of w ≡ pending_bytes (inner_name after) (line_ends_pending d.lines) =
       line_ends_of-owed w ∙ (ap (λ n. replicate n 10) (sym counted) ∙ sym (pending_lines (inner_name after) d.lines)) in
@@ -370,7 +371,7 @@ module _ {S R : Type 0} (g : Ghosts S R) (old mid new : EngineView S R) (len : �
       let b = inner_buffer mid.files.include_stack in
       let table : mid.table ≡ old.table = ap (λ e. e.table) r.becomes in
       let here : b.line ≡ (inner_buffer old.files.include_stack).line = holds.extends.line in
-      let refused : define_of old.limits.definition_bytes old.limits.definitions old.table.macros (drop 7 (take len (held_of b))) ≡ table_define.DefinedFault d.kind d.word =
+      let refused : define_of old.limits.definition_bytes old.limits.definitions old.table.macros (drop 7 (take len (held_of b))) ≡ table_stored.DefinedFault d.kind d.word =
       rw (← ready.sound.definition_bytes, ← ready.sound.definitions) (rw table at d.refused) in
       refuses g old mid new place (define_fault d.kind) b.line d.word ready r bounded is d.becomes (define_kind d.kind) call
       (λ t. include_stack_refused_define old.limits (run_rules g old) g.unread old.table.macros old.conditions live (g.has_known_texts old.sources) t old.files.include_stack b len (define_fault d.kind) d.word
@@ -564,7 +565,7 @@ after_word line len m wide least =
     take_rest line m ∙ drop_min line m 7 (least ∙ ap (λ n. min n 7) (sym wide))
 
 -- what a `define` gives of the same things
-pub defined_same : (b n : ℕ) (macros : List Macro) (r1 r2 : List ℕ) (o : table_define.Defined) → o ≡ define_of b n macros r1 → r1 ≡ r2 → define_of b n macros r2 ≡ o
+pub defined_same : (b n : ℕ) (macros : List Macro) (r1 r2 : List ℕ) (o : table_stored.Defined) → o ≡ define_of b n macros r1 → r1 ≡ r2 → define_of b n macros r2 ≡ o
 defined_same b n macros r1 r2 o e r = rw (← r) (sym e)
 
 -- a refused `define`, at a place
@@ -580,7 +581,7 @@ pub defines_by : {S R : Type 0} (len : ℕ) (old now new : EngineView S R) (tabl
     → now ≡ record old { table = table; files = record old.files { include_stack = with_inner (consumed_file len lines) old.files.include_stack } }
     → new ≡ record now { pending = pending } → pending ≡ record now.pending { line_ends = now.pending.line_ends + lines } → old.pending ≡ nothing_pending
     → (table.most_bytes ≡ old.table.most_bytes) × (table.most_macros ≡ old.table.most_macros)
-    → define_of old.table.most_bytes old.table.most_macros old.table.macros (define_rest old len) ≡ table_define.Accepted table.macros
+    → define_of old.table.most_bytes old.table.most_macros old.table.macros (define_rest old len) ≡ table_stored.Accepted table.macros
     → lines ≡ line_ends (take len (held_of (inner_buffer old.files.include_stack))) → Defines len old new
 unfolding nothing_pending line_ends_pending
 defines_by {S} {R} len old now new table pending lines used queues adds nothing limits accepted counted = grind (arith, table_same)

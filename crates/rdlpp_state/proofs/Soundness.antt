@@ -4,7 +4,8 @@ use Rattle.std.proofs.lemmas.List.{nil_from_length}
 use Rattle.std.proofs.lemmas.List.Elements.{All-head, All-same, All-tail}
 use Rattle.rdlpp_scan.specs.declared.token.Directive.{Directive}
 use Rattle.rdlpp_scan.specs.declared.token.Mode.TheVariants.{Plain}
-use Rattle.rdlpp_table.specs.Table.{Macro, table_size}
+use Rattle.rdlpp_define.specs.Macros.{Macro}
+use Rattle.rdlpp_table.specs.Table.{table_size}
 use Rattle.rdlpp_table.specs.View.{TableView}
 use Rattle.rdlpp_table.specs.declared.limits.Limits.{Limits}
 use Rattle.rdlpp_meaning.specs.Moves.{in_branch}

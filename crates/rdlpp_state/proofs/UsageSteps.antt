@@ -1,7 +1,8 @@
 -- The opening of a usage and the steps of its open texts, as steps of the engine.
 use Rattle.std.proofs.Common.{◌≡◌, ◌==◌, ◌⊎◌, inl, inr, ℕ, ◌^◌, ◌<◌, true, false, List, [], ◌∷◌, length, Option, None, Some, Ok, refl, sym, ap, ◌∙◌, subst, arith, ◌++◌, ◌≤◌, ◌+◌, drop, Err}
 use Rattle.rdlpp_scan.specs.declared.token.Mode.TheVariants.{Plain}
-use Rattle.rdlpp_table.specs.Table.{Macro, macro_named}
+use Rattle.rdlpp_define.specs.Macros.{Macro}
+use Rattle.rdlpp_table.specs.Table.{macro_named}
 use Rattle.rdlpp_table.specs.declared.limits.Limits.{Limits}
 use Rattle.rdlpp_meaning.specs.Meaning.{Passage, Progress, after_bytes, goes_on, leaves}
 use Rattle.rdlpp_meaning.specs.OpenItems.{open_left}

@@ -1,7 +1,7 @@
 -- What remains of an engine's output, and the work left.
 -- A definition that names no source is this project's own.
 use Rattle.std.specs.Prelude.{ℕ, ◌-◌, Bool, List, [], ◌∷◌, ◌++◌, length, take, Option, None, Some, if◌then◌else◌}
-use Rattle.rdlpp_table.specs.Table.{Macro}
+use Rattle.rdlpp_define.specs.Macros.{Macro}
 use Rattle.rdlpp_table.specs.declared.limits.Limits.{Limits}
 use Rattle.rdlpp_source.specs.Sources.{Answer, Catalog, Missing, Overlong, Present}
 use Rattle.rdlpp_source.specs.declared.sources.Sources.{Ghosts}

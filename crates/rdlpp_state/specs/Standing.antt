@@ -3,8 +3,9 @@
 use Rattle.std.specs.Prelude.{◌≡◌, ◌<◌, ◌≤◌, ℕ, List, [], ◌∷◌, length, take, Option, Some, true, false, if◌then◌else◌}
 use Rattle.rdlpp_source.specs.declared.sources.Sources.{Ghosts}
 use Rattle.rdlpp_scan.specs.declared.token.Mode.{Mode}
-use Rattle.rdlpp_table.specs.Table.{Macro, macro_named}
-use Rattle.rdlpp_table.specs.View.{formals_of, macro_at}
+use Rattle.rdlpp_define.specs.Macros.{Macro, formals_of}
+use Rattle.rdlpp_table.specs.Table.{macro_named}
+use Rattle.rdlpp_table.specs.View.{macro_at}
 use Rattle.rdlpp_meaning.specs.Meaning.{Progress}
 use Rattle.rdlpp_meaning.specs.Opened.{Waiting}
 use Rattle.rdlpp_meaning.specs.State.{Rules, State}

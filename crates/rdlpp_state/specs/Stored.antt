@@ -6,7 +6,7 @@ use Rattle.rdlpp_source.specs.declared.sources.Sources.{Ghosts}
 use Rattle.rdlpp_read.specs.Buffer.{BufferView, text_left, unread_of}
 use Rattle.rdlpp_read.specs.declared.files.File.{File}
 use Rattle.rdlpp_scan.specs.declared.token.Mode.TheVariants.{Plain}
-use Rattle.rdlpp_table.specs.Table.{Formal, Macro}
+use Rattle.rdlpp_define.specs.Macros.{Formal, Macro}
 use Rattle.rdlpp_table.specs.View.{macro_at}
 use Rattle.rdlpp_meaning.specs.Opens.{Open}
 use Rattle.rdlpp_meaning.specs.CallScan.{Before}

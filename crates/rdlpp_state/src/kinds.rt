@@ -3,7 +3,7 @@ ghost use Rattle.std.specs.Prelude.{◌≡◌};
 ghost use Rattle.rdlpp_meaning.specs.Profile.{define_fault};
 
 use rdlpp_meaning::FaultKind;
-use rdlpp_table::DefineKind;
+use rdlpp_define::DefineKind;
 
 /// The kind of fault that a refused definition is: the one of the same name (this project's profile).
 #[tactic(auto, unfolding(rdlpp_meaning::specs::Profile::define_fault))]

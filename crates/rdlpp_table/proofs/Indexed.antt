@@ -11,7 +11,8 @@ use Rattle.rdlpp_table.specs.IndexView.{IsInBucket}
 use Rattle.rdlpp_table.specs.Layout.{IsHeld, view_of}
 use Rattle.rdlpp_table.specs.FormalOffsets.{table_offsets}
 use Rattle.rdlpp_table.specs.Store.{IsStored, entry_end, macro_in, macros_in, name_of}
-use Rattle.rdlpp_table.specs.Table.{Macro, macro_named, without}
+use Rattle.rdlpp_define.specs.Macros.{Macro}
+use Rattle.rdlpp_table.specs.Table.{macro_named, without}
 use Rattle.rdlpp_table.specs.View.{TableView, no_macro, place_named}
 use Rattle.rdlpp_table.specs.declared.entry.Entry.{Entry}
 use Rattle.rdlpp_table.proofs.Orders.{count_names, indexed_gap, indexed_place, less_part, more_part, name_of_macro, one_place, turned, turned_back}

@@ -1,345 +1,87 @@
--- A macro that is to be stored: its body, its formals, and the lists of a table with it.
-use Rattle.std.proofs.Common.{◌≡◌, ℕ, true, false, List, [], ◌∷◌, ◌++◌, take, drop, Option, Some, None, Ok, Err, refl, ap, sym, ◌∙◌, inl, inr, zero, suc, ◌+◌, ◌<◌, ◌≤◌, Bool, cond, ◌||◌, ltb, length, map, bytes_eq, unwrap_or, subst, arith, length-append, ◌-◌, ◌*◌, ◌/◌, slice_range, is_some, option_map, append_assoc, append-nil, ltb-false, flat_map, drop_at}
-use Rattle.std.proofs.lemmas.Bool.{cases_Bool, cond-true, cond-false, eqb-false}
-use Rattle.std.specs.List.{IsDistinct, list_any, list_all}
-use Rattle.std.proofs.lemmas.Grind.{common_steps}
-use Rattle.std.proofs.lemmas.List.{map-append, nil_from_length}
-use Rattle.std.proofs.lemmas.List.Elements.{All-nil, All-push}
-use Rattle.std.proofs.lemmas.Cmp.{nat_list_eq_equiv}
-use Rattle.std.proofs.lemmas.Map.Keys.{IsDistinct-push}
-use Rattle.rdlpp_scan.specs.declared.token.Kind.{Kind}
-use Rattle.rdlpp_scan.specs.declared.token.Kind.TheVariants.{LineComment}
-use Rattle.rdlpp_scan.specs.declared.token.Token.{Token}
-use Rattle.rdlpp_scan.specs.declared.token.Mode.{Mode}
-use Rattle.rdlpp_scan.specs.declared.token.Mode.TheVariants.{Plain}
-use Rattle.rdlpp_scan.specs.declared.token.LexFault.{LexFault}
-use Rattle.rdlpp_scan.specs.Tokens.{tokens_from}
-use Rattle.rdlpp_scan.specs.LexFaults.{is_perl, open_fault, fault_of_tokens, lex_fault_from}
-use Rattle.rdlpp_scan.specs.Names.{is_name}
-use Rattle.rdlpp_table.specs.declared.fault.DefineKind.{DefineKind}
-use Rattle.rdlpp_table.specs.declared.fault.DefineFault.{DefineFault}
-use Rattle.rdlpp_table.specs.Table.{Formal, Macro, formal_bytes, macro_bytes, macro_size}
-use Rattle.rdlpp_scan.specs.Continuations.{as_read}
-use Rattle.rdlpp_scan.specs.KeptText.{Cleared, Sound, Unsound, onto, trimmed_left, trimmed_len, trims, cleared, told, read_by, left_in, kept_bytes, start_level}
-use Rattle.rdlpp_table.specs.Define.{Draft, Drawn, DraftFault, lexical, observed, macro_set, name_fault, refused_word, set_of, stored, stored_draft, trimmed, with_body, without_list, text_without_line_comments, FormalFault, DefaultText, Good, Listed, FormalListFault, after_name, default_in, formal_fault, formal_in, formal_name, formals_in, formals_of_list, is_nothing, with_default}
-use Rattle.rdlpp_table.proofs.Taken.{between_parts}
-use Rattle.rdlpp_table.proofs.RoundTrip.{refused_is, read_list}
-use Rattle.rdlpp_table.specs.View.{AreSoundFormals, IsSoundMacro, formals_of}
-use Rattle.rdlpp_table.specs.NewMacro.{list_formals, new_macro, points_told, IsList, IsNew}
-use Rattle.rdlpp_scan.specs.CleanTexts.{IsCleanText}
-use Rattle.rdlpp_scan.specs.Reserved.{is_reserved}
-use Rattle.rdlpp_table.proofs.Defaults.{default_in_clean, drawn_clean}
-use Rattle.rdlpp_table.proofs.Reading.{fault_three, formal_by, in_by, list_by, list_full, list_step, three}
-use Rattle.rdlpp_table.specs.PointCache.{cached_points}
-use Rattle.rdlpp_table.specs.declared.point_cache.PointCache.{PointCache}
-use Rattle.rdlpp_scan.proofs.Measures.{left_len}
-use Rattle.rdlpp_table.specs.declared.entry.Entry.{Entry}
-use Rattle.rdlpp_table.specs.Formals.{IsRead, listed}
-use Rattle.rdlpp_table.specs.FormalOffsets.{macro_offsets, offsets_of}
-use Rattle.rdlpp_table.specs.Store.{entry_of, formals_read, is_plain_formal, is_plain_macro, list_size, AreStoredFormals}
-use Rattle.rdlpp_table.proofs.Sizes.{few_offsets_of, length_list_bytes}
-use Rattle.rdlpp_table.proofs.FirstPoints.{after_place}
-use Rattle.rdlpp_table.specs.declared.fault.DefineKind.TheVariants as kind
-
--- A macro with a body, by what is left of the body's text.
-
--- the draft of what is left
-abbrev drafted_by : List ℕ → Option (List Formal) → Cleared → Draft
-drafted_by name formals (Sound rest last) = Drawn (record { name = name; formals = formals; body = trimmed rest })
-drafted_by name formals (Unsound fault) = DraftFault (lexical fault) []
-
-by_fault : (name : List ℕ) (formals : Option (List Formal)) (fault : Option LexFault) (rest : List ℕ) → (elim fault [ Some f ↦ DraftFault (lexical f) [] | None ↦ Drawn (record { name = name; formals = formals; body = trimmed rest }) ]) ≡ drafted_by name formals (told fault rest)
-by_fault name formals None rest = refl
-by_fault name formals (Some f) rest = refl
-
-none_left : (text : List ℕ) → text_without_line_comments [] text ≡ []
-unfolding text_without_line_comments
-none_left text = refl
-
-kept_front_of : (k : Kind) (xs ys : List ℕ) → (elim k [ LineComment ↦ ys | _ ↦ xs ++ ys ]) ≡ (elim k [ LineComment ↦ [] | _ ↦ xs ]) ++ ys
-kept_front_of LineComment xs ys = refl
-kept_front_of k xs ys = refl
-
-kept_front : (t : Token) (ts : List Token) (text : List ℕ) → text_without_line_comments (t ∷ ts) text ≡ kept_bytes t text ++ text_without_line_comments ts (drop t.len text)
-unfolding text_without_line_comments
-kept_front t ts text = kept_front_of t.kind (take t.len text) (text_without_line_comments ts (drop t.len text))
-
-told_onto : (fault : Option LexFault) (xs ys : List ℕ) → told fault (xs ++ ys) ≡ onto xs (told fault ys)
-unfolding onto
-told_onto None xs ys = refl
-told_onto (Some f) xs ys = refl
-
--- a body's tokens leave what its text without `//` comments is, or its first fault
-body_read : (mode : Mode) (ts : List Token) (text : List ℕ) → read_by None mode ts text ≡ told (fault_of_tokens mode ts) (text_without_line_comments ts text)
-unfolding fault_of_tokens
-body_read mode [] text = ap (told (open_fault mode)) (sym (none_left text))
-body_read mode (t ∷ ts) text =
-    elim (cases_Bool (is_perl t.kind)) [
-      | inl e ↦ cond-true _ _ _ e ∙ sym (ap (λ (f : Option LexFault). told f (text_without_line_comments (t ∷ ts) text)) (cond-true _ _ _ e))
-      | inr e ↦
-          cond-false _ _ _ e
-          ∙ (ap (onto (kept_bytes t text)) (body_read t.next_mode ts (drop t.len text))
-          ∙ (sym (told_onto (fault_of_tokens t.next_mode ts) (kept_bytes t text) (text_without_line_comments ts (drop t.len text)))
-          ∙ (ap (told (fault_of_tokens t.next_mode ts)) (sym (kept_front t ts text))
-          ∙ sym (ap (λ (f : Option LexFault). told f (text_without_line_comments (t ∷ ts) text)) (cond-false _ _ _ e)))))
-    ]
-
-pub same_left : (text : List ℕ) → told (lex_fault_from Plain text) (text_without_line_comments (tokens_from Plain 0 text) text) ≡ cleared None text
-unfolding lex_fault_from cleared left_in
-same_left text = sym (body_read Plain (tokens_from Plain 0 text) text)
-
-body_draft : (name : List ℕ) (formals : Option (List Formal)) (text : List ℕ) → with_body name formals text ≡ drafted_by name formals (cleared None text)
-unfolding with_body
-body_draft name formals text =
-    by_fault name formals (lex_fault_from Plain text) (text_without_line_comments (tokens_from Plain 0 text) text) ∙ ap (drafted_by name formals) (same_left text)
-
-drawn_by : (name : List ℕ) (formals : Option (List Formal)) (c : Cleared) (len : ℕ) → Ok len ≡ trimmed_len (trims false) c → drafted_by name formals c ≡ Drawn (record { name = name; formals = formals; body = trimmed_left (trims false) c })
-unfolding trimmed_len trimmed_left trims trimmed
-drawn_by name formals (Sound rest last) len e = refl
-drawn_by name formals (Unsound fault) len e = absurd (cc)
-
-rejected_by : (name : List ℕ) (formals : Option (List Formal)) (c : Cleared) (fault : LexFault) → Err fault ≡ trimmed_len (trims false) c → drafted_by name formals c ≡ DraftFault (lexical fault) []
-unfolding trimmed_len
-rejected_by name formals (Sound rest last) fault e = absurd (cc)
-rejected_by name formals (Unsound other) fault e = let same : other ≡ fault = cc in ap (λ (f : LexFault). DraftFault (lexical f) []) same
-
--- a body without a fault gives the macro
-pub body_drawn : (name : List ℕ) (formals : Option (List Formal)) (text : List ℕ) (len : ℕ) → Ok len ≡ trimmed_len (trims false) (cleared None text) → with_body name formals text ≡ Drawn (record { name = name; formals = formals; body = trimmed_left (trims false) (cleared None text) })
-body_drawn name formals text len e = body_draft name formals text ∙ drawn_by name formals (cleared None text) len e
-
-pub body_stores : (a b : ℕ) (ms : List Macro) (name : List ℕ) (formals : Option (List Formal)) (text : List ℕ) (len : ℕ) → Ok len ≡ trimmed_len (trims false) (cleared None text) → stored a b ms (record { name = name; formals = formals; body = trimmed_left (trims false) (cleared None text) }) ≡ stored_draft a b ms (with_body name formals text)
-unfolding stored_draft
-body_stores a b ms name formals text len e = sym (ap (stored_draft a b ms) (body_drawn name formals text len e))
-
-pub body_refuses : (a b : ℕ) (ms : List Macro) (name : List ℕ) (formals : Option (List Formal)) (text : List ℕ) (fault : LexFault) (refused : DefineFault) → Err fault ≡ trimmed_len (trims false) (cleared None text) → refused.kind ≡ lexical fault → refused.word.bytes ≡ [] → observed (Err refused) ms ≡ stored_draft a b ms (with_body name formals text)
-unfolding stored_draft
-body_refuses a b ms name formals text fault refused e k w =
-    refused_is refused (lexical fault) ms k w ∙ sym (ap (stored_draft a b ms) (body_draft name formals text ∙ rejected_by name formals (cleared None text) fault e))
-
--- a macro that is set, by what is wrong with its name
-pub set_nameless : (a b : ℕ) (ms : List Macro) (name text : List ℕ) (fault : DefineFault) → is_name name ≡ false → fault.kind ≡ kind.NameExpected → fault.word.bytes ≡ [] → observed (Err fault) ms ≡ set_of a b ms name text
-unfolding set_of macro_set stored_draft
-set_nameless a b ms name text fault e k w = refused_is fault kind.NameExpected ms k w ∙ sym (ap (stored_draft a b ms) (cond-false _ _ _ e))
-
-pub set_refuses : (a b : ℕ) (ms : List Macro) (name text : List ℕ) (fault : DefineFault) → is_name name ≡ true → name_fault name ≡ Some fault.kind → fault.word.bytes ≡ refused_word fault.kind name → observed (Err fault) ms ≡ set_of a b ms name text
-unfolding set_of macro_set without_list stored_draft observed
-set_refuses a b ms name text fault e why word = grind (arith, cond-true)
-
-pub set_stores : (a b : ℕ) (ms : List Macro) (name text : List ℕ) → is_name name ≡ true → name_fault name ≡ None → stored_draft a b ms (with_body name None (as_read false text)) ≡ set_of a b ms name text
-unfolding set_of macro_set without_list as_read
-set_stores a b ms name text e ok = grind (arith, cond-true)
-
--- The formals that a list gives are sound.
-
--- a formal that may stand behind others
-record IsNextFormal (before : List Formal) (f : Formal) : Type 0 where
-  short : length f.name ≤ 128
-  other : list_any (λ g. bytes_eq g.name f.name) before ≡ false
-  room : length before < 255
-  text : IsCleanText f.text
-
-three_none : (a b c : Bool) → three a b c ≡ None → (b ≡ false) × (c ≡ false)
-three_none false false false e = (refl, refl)
-three_none a b c e = absurd (cc)
-
-named_with : (name from : List ℕ) (d : Option DefaultText) (f : Formal) (following : List ℕ) → default_in from ≡ d → with_default name d ≡ Good f following → (name ≡ f.name) × IsCleanText f.text
-unfolding with_default
-named_with name from None f following is e = absurd (cc)
-named_with name from (Some d) f following is e =
-    let g : (let x : Formal = record { name = name; text = d.text } in x) ≡ f = cc in
-    (ap (λ (x : Formal). x.name) g, subst IsCleanText (ap (λ (x : Formal). x.text) g) (default_in_clean from d is))
-
-good_by : (o : Option DefineKind) (name from : List ℕ) (f : Formal) (following : List ℕ) → formal_by o name (default_in from) ≡ Good f following → (o ≡ None) × ((name ≡ f.name) × IsCleanText f.text)
-good_by None name from f following e = (refl, named_with name from (default_in from) f following refl e)
-good_by (Some k) name from f following e = absurd (cc)
-
-next_formal : (before : List Formal) (text : List ℕ) (f : Formal) (following : List ℕ) → length before < 255 → formal_in before text ≡ Good f following → IsNextFormal before f
-next_formal before text f following room e =
-    let g = good_by (formal_fault before (formal_name text)) (formal_name text) (after_name text) f following (sym (in_by before text) ∙ e) in
-    let t = three_none (is_nothing (formal_name text)) (ltb 128 (length (formal_name text))) (list_any (λ (g : Formal). bytes_eq g.name (formal_name text)) before) (sym (fault_three before (formal_name text)) ∙ g.0) in
-    grind (arith, ltb-false)
-
-turned_any : (name : List ℕ) (before : List Formal) → list_any (bytes_eq name) (map (λ g. g.name) before) ≡ list_any (λ g. bytes_eq g.name name) before
-turned_any name [] = refl
-turned_any name (g ∷ before) =
-    ap (λ (b : Bool). b || list_any (bytes_eq name) (map (λ (h : Formal). h.name) before)) (nat_list_eq_equiv.symm name g.name)
-    ∙ ap (λ (b : Bool). bytes_eq g.name name || b) (turned_any name before)
-
-pub no_formals_sound : AreSoundFormals []
-unfolding IsDistinct
-no_formals_sound = record { distinct = tt; few = omega arith; short = All-nil _; texts = All-nil _ }
-
-one_more_sound : (before : List Formal) (f : Formal) → AreSoundFormals before → IsNextFormal before f → AreSoundFormals (before ++ f ∷ [])
-one_more_sound before f s n =
-    grind (arith, common_steps, map-append, IsDistinct-push, nat_list_eq_equiv, turned_any, length-append, All-push)
-
-listed_same : (before fs : List Formal) (after' after : List ℕ) → Listed (Some before) after' ≡ Listed (Some fs) after → before ≡ fs
-listed_same before fs after' after e = cc
-
--- by what stands behind the next formal
-after_sound : (room : ℕ) (before : List Formal) (f : Formal) (following : List ℕ) (fs : List Formal) (after : List ℕ) → AreSoundFormals (before ++ f ∷ []) → (formals_in room (before ++ f ∷ []) (drop 1 following) ≡ Listed (Some fs) after → AreSoundFormals fs) → list_by room before (Good f following) ≡ Listed (Some fs) after → AreSoundFormals fs
-after_sound room before f following fs after s next e = grind (arith, cases_Bool, cond-true, listed_same, cond-false)
-
-in_sound : (room : ℕ) (before : List Formal) (text : List ℕ) (fs : List Formal) (after : List ℕ) → AreSoundFormals before → length before + room ≤ 255 → formals_in room before text ≡ Listed (Some fs) after → AreSoundFormals fs
-in_sound zero before text fs after s n e = let h : FormalListFault (unwrap_or (formal_fault before (formal_name text)) kind.TooManyFormals) ≡ Listed (Some fs) after = sym (list_full before text) ∙ e in absurd (cc)
-in_sound (suc room) before text fs after s n e =
-    (elim (formal_in before text) as (λ o. formal_in before text ≡ o → list_by room before o ≡ Listed (Some fs) after → AreSoundFormals fs) [
-      | FormalFault k ↦ λ q h. absurd (cc)
-      | Good f following ↦ λ q h.
-          after_sound room before f following fs after (one_more_sound before f s (next_formal before text f following (omega arith) q))
-          (λ i. in_sound room (before ++ f ∷ []) (drop 1 following) fs after (one_more_sound before f s (next_formal before text f following (omega arith) q)) (omega (arith, length-append before (f ∷ []))) i) h
-    ]) refl (sym (list_step room before text) ∙ e)
-
--- a name without a fault is that of a sound macro
-pub record IsGoodName (name : List ℕ) : Type 0 where
-  pub named : 0 < length name
-  pub short : length name ≤ 128
-  pub unreserved : is_reserved name ≡ false
-
-faultless : (c : Bool) (k : DefineKind) (y : Option DefineKind) → cond c (Some k) y ≡ None → (c ≡ false) × (y ≡ None)
-faultless true k y e = absurd (cc)
-faultless false k y e = (refl, e)
-
-pub good_name : (name : List ℕ) → name_fault name ≡ None → IsGoodName name
-unfolding name_fault
-good_name name e = grind (arith, faultless, eqb-false, ltb-false)
-
-pub new_sound : (name : List ℕ) (arity : Option ℕ) (list : List ℕ) (is_logical : Bool) (text : List ℕ) (len : ℕ) → name_fault name ≡ None → AreSoundFormals (unwrap_or (list_formals arity list) [])
-    → Ok len ≡ trimmed_len (trims false) (cleared None (as_read is_logical text)) → IsSoundMacro (new_macro name arity list is_logical text)
-new_sound name arity list is_logical text len e s read =
-    let g = good_name name e in
-    record {
-      named = g.named;
-      short = g.short;
-      unreserved = g.unreserved;
-      formals = s;
-      body = drawn_clean name (list_formals arity list) (as_read is_logical text) (new_macro name arity list is_logical text) (body_drawn name (list_formals arity list) (as_read is_logical text) len read);
-    }
-
-by_list : (text : List ℕ) (fs : List Formal) (after : List ℕ) → formals_of_list text ≡ Listed (Some fs) after → AreSoundFormals fs
-unfolding formals_of_list
-by_list text fs after e = grind (arith, cases_Bool, listed_same, cond-true, no_formals_sound, in_sound, cond-false)
-
--- the formals of a list are sound (this project's profile)
-pub listed_sound : (text : List ℕ) (o : Option (List Formal)) (after : List ℕ) → formals_of_list text ≡ Listed o after → AreSoundFormals (unwrap_or o [])
-listed_sound text None after e = no_formals_sound
-listed_sound text (Some fs) after e = by_list text fs after e
-
 -- A macro that is to be stored, in the lists of a table.
+use Rattle.std.proofs.Common.{◌≡◌, ℕ, true, List, ◌++◌, take, drop, Option, ap, sym, ◌∙◌, ◌+◌, ◌≤◌, length, unwrap_or, arith, length-append, ◌-◌, ◌*◌, ◌/◌, slice_range, option_map, append_assoc, flat_map, drop_at}
+use Rattle.std.specs.List.{list_all}
+use Rattle.std.proofs.lemmas.Grind.{common_steps}
+use Rattle.rdlpp_define.specs.Macros.{Formal, Macro, formal_bytes, macro_size, formals_of, list_size}
+use Rattle.rdlpp_table.specs.Table.{macro_bytes}
+use Rattle.rdlpp_table.proofs.Taken.{between_parts}
+use Rattle.rdlpp_table.proofs.RoundTrip.{read_list}
+use Rattle.rdlpp_table.specs.PointCache.{cached_points}
+use Rattle.rdlpp_table.specs.Store.{points_told, entry_of, formals_read, AreStoredFormals}
+use Rattle.rdlpp_table.specs.declared.point_cache.PointCache.{PointCache}
+use Rattle.rdlpp_table.specs.declared.entry.Entry.{Entry}
+use Rattle.rdlpp_define.specs.Formals.{listed}
+use Rattle.rdlpp_table.specs.FormalOffsets.{macro_offsets, offsets_of}
+use Rattle.rdlpp_define.specs.Plain.{is_plain_formal, is_plain_macro}
+use Rattle.rdlpp_table.proofs.Sizes.{count_formals, few_offsets_of}
+use Rattle.rdlpp_define.proofs.Sizes.{length_list_bytes}
+use Rattle.rdlpp_table.proofs.FirstPoints.{after_place}
 
--- what is left of a body's text
-abbrev pub body_of_text : Bool → List ℕ → List ℕ
-body_of_text is_logical text = trimmed_left (trims false) (cleared None (as_read is_logical text))
+pub new_size : (m : Macro) → macro_size m ≡ length m.name + (list_size m + length m.body)
+unfolding macro_size list_size
+new_size m = omega arith
 
-pub new_size : (name : List ℕ) (arity : Option ℕ) (list : List ℕ) (size : ℕ) (is_logical : Bool) (text : List ℕ) (len : ℕ) → IsNew name arity list size is_logical text len → macro_size (new_macro name arity list is_logical text) ≡ length name + (size + len)
-unfolding macro_size
-new_size name arity list size is_logical text len n =
-    omega (arith, n.listed.size_is, left_len (trims false) (cleared None (as_read is_logical text)) len n.body_is)
+pub formals_size : (m : Macro) → length (flat_map formal_bytes (formals_of m)) ≡ list_size m
+unfolding list_size
+formals_size m = length_list_bytes (formals_of m)
 
-pub new_bytes : (bytes named listed done name : List ℕ) (arity : Option ℕ) (list : List ℕ) (is_logical : Bool) (text : List ℕ) → named ≡ bytes ++ name → listed ≡ named ++ flat_map formal_bytes (unwrap_or (list_formals arity list) []) → done ≡ listed ++ body_of_text is_logical text → done ≡ bytes ++ macro_bytes (new_macro name arity list is_logical text)
+pub new_bytes : (bytes named listed done : List ℕ) (m : Macro) → named ≡ bytes ++ m.name → listed ≡ named ++ flat_map formal_bytes (formals_of m) → done ≡ listed ++ m.body → done ≡ bytes ++ macro_bytes m
 unfolding macro_bytes
-new_bytes bytes named listed done name arity list is_logical text e f g = grind (arith, append_assoc)
+new_bytes bytes named listed done m e f g = grind (arith, append_assoc)
 
 -- the formals of a macro that is to be stored are read back from their bytes
-count_of : (o : Option (List Formal)) (arity : Option ℕ) → option_map length o ≡ arity → unwrap_or arity 0 ≡ length (unwrap_or o [])
-count_of None arity e = ap (λ (a : Option ℕ). unwrap_or a 0) (sym e)
-count_of (Some fs) arity e = ap (λ (a : Option ℕ). unwrap_or a 0) (sym e)
+count_of : (m : Macro) (arity : Option ℕ) → arity ≡ option_map length m.formals → unwrap_or arity 0 ≡ length (formals_of m)
+count_of m arity e = ap (λ (a : Option ℕ). unwrap_or a 0) e ∙ count_formals m.formals
 
-same_formals : (arity : Option ℕ) (list : List ℕ) (size : ℕ) → IsList arity list size → formals_read (unwrap_or arity 0) (flat_map formal_bytes (unwrap_or (list_formals arity list) [])) ≡ unwrap_or (list_formals arity list) []
-same_formals arity list size l =
-    ap (λ (n : ℕ). formals_read n (flat_map formal_bytes (unwrap_or (list_formals arity list) []))) (count_of (list_formals arity list) arity l.arity_is)
-    ∙ read_list (unwrap_or (list_formals arity list) []) l.plain
+same_formals : (m : Macro) (count : ℕ) → is_plain_macro m ≡ true → count ≡ length (formals_of m) → formals_read count (flat_map formal_bytes (formals_of m)) ≡ formals_of m
+unfolding is_plain_macro
+same_formals m count p n = ap (λ (k : ℕ). formals_read k (flat_map formal_bytes (formals_of m))) n ∙ read_list (formals_of m) p
 
 -- bytes that are those of the formals of a macro that is to be stored
-pub record IsAppended (arity : Option ℕ) (list : List ℕ) (size count : ℕ) (slice : List ℕ) : Type 0 where
-  pub read : formals_read count slice ≡ unwrap_or (list_formals arity list) []
+pub record IsAppended (m : Macro) (count : ℕ) (slice : List ℕ) : Type 0 where
+  pub read : formals_read count slice ≡ formals_of m
   pub whole : flat_map formal_bytes (formals_read count slice) ≡ slice
   pub plain : list_all is_plain_formal (formals_read count slice) ≡ true
-  pub long : length slice ≡ size
+  pub long : length slice ≡ list_size m
 
-appended : (arity : Option ℕ) (list : List ℕ) (size count : ℕ) (slice : List ℕ) → IsList arity list size → count ≡ unwrap_or arity 0 → slice ≡ flat_map formal_bytes (unwrap_or (list_formals arity list) []) → IsAppended arity list size count slice
-appended arity list size count slice l n e = grind (arith, same_formals, length_list_bytes)
+appended : (m : Macro) (count : ℕ) (slice : List ℕ) → is_plain_macro m ≡ true → count ≡ length (formals_of m) → slice ≡ flat_map formal_bytes (formals_of m) → IsAppended m count slice
+unfolding list_size is_plain_macro
+appended m count slice p n e = grind (arith, same_formals, length_list_bytes)
 
 -- the last bytes, once the formals were appended
-pub appended_last : (named listed here : List ℕ) (arity : Option ℕ) (list : List ℕ) (size count from : ℕ) → IsList arity list size → listed ≡ named ++ flat_map formal_bytes (unwrap_or (list_formals arity list) []) → from ≡ length named → count ≡ unwrap_or arity 0 → here ≡ listed → IsAppended arity list size count (take (length here - from) (drop from here))
-appended_last named listed here arity list size count from l e i n h =
-    appended arity list size count (take (length here - from) (drop from here)) l n
-    (after_place from here ∙ (ap (drop from) (h ∙ e) ∙ drop_at named (flat_map formal_bytes (unwrap_or (list_formals arity list) [])) from (sym i)))
+pub appended_last : (named listed here : List ℕ) (m : Macro) (arity : Option ℕ) (count from : ℕ) → is_plain_macro m ≡ true → listed ≡ named ++ flat_map formal_bytes (formals_of m) → from ≡ length named → arity ≡ option_map length m.formals → count ≡ unwrap_or arity 0 → here ≡ listed → IsAppended m count (take (length here - from) (drop from here))
+appended_last named listed here m arity count from p e i a n h =
+    appended m count (take (length here - from) (drop from here)) p (n ∙ count_of m arity a)
+    (after_place from here ∙ (ap (drop from) (h ∙ e) ∙ drop_at named (flat_map formal_bytes (formals_of m)) from (sym i)))
 
 -- the bytes between two places, once the body was appended too
-pub appended_between : (named listed all here : List ℕ) (arity : Option ℕ) (list : List ℕ) (size count from to : ℕ) (body : List ℕ) → IsList arity list size → listed ≡ named ++ flat_map formal_bytes (unwrap_or (list_formals arity list) []) → all ≡ listed ++ body → from ≡ length named → to ≡ length listed → count ≡ unwrap_or arity 0 → here ≡ all → IsAppended arity list size count (slice_range here from to)
-appended_between named listed all here arity list size count from to body l e f i j n h =
-    let formals : List ℕ = flat_map formal_bytes (unwrap_or (list_formals arity list) []) in
+pub appended_between : (named listed all here : List ℕ) (m : Macro) (arity : Option ℕ) (count from to : ℕ) (body : List ℕ) → is_plain_macro m ≡ true → listed ≡ named ++ flat_map formal_bytes (formals_of m) → all ≡ listed ++ body → from ≡ length named → to ≡ length listed → arity ≡ option_map length m.formals → count ≡ unwrap_or arity 0 → here ≡ all → IsAppended m count (slice_range here from to)
+appended_between named listed all here m arity count from to body p e f i j a n h =
+    let formals : List ℕ = flat_map formal_bytes (formals_of m) in
     let whole : here ≡ named ++ (formals ++ body) = h ∙ (f ∙ (ap (λ (x : List ℕ). x ++ body) e ∙ append_assoc named formals body)) in
-    appended arity list size count (slice_range here from to) l n
+    appended m count (slice_range here from to) p (n ∙ count_of m arity a)
     (ap (λ (x : List ℕ). slice_range x from to) whole ∙ between_parts named formals body from to (sym i) (omega (arith, i, j, ap (length {A = ℕ}) e, length-append named formals)))
 
 -- the offsets that were kept behind a list are those of its formals
-pub appended_listed : (arity : Option ℕ) (list : List ℕ) (size count : ℕ) (last between order here : List ℕ) (from : ℕ) → IsAppended arity list size count last → IsAppended arity list size count between → here ≡ order ++ offsets_of (formals_read count last) → from ≡ length order → AreStoredFormals count between (take (length here - from) (drop from here))
-appended_listed arity list size count last between order here from a b e i = grind (arith, common_steps, after_place)
+pub appended_listed : (m : Macro) (count : ℕ) (last between order here : List ℕ) (from : ℕ) → IsAppended m count last → IsAppended m count between → here ≡ order ++ offsets_of (formals_read count last) → from ≡ length order → AreStoredFormals count between (take (length here - from) (drop from here))
+appended_listed m count last between order here from a b e i = grind (arith, common_steps, after_place)
 
 -- as are those of the macro
-pub appended_offsets : (name : List ℕ) (arity : Option ℕ) (list : List ℕ) (size : ℕ) (is_logical : Bool) (text : List ℕ) (count : ℕ) (last : List ℕ) → IsAppended arity list size count last → offsets_of (formals_read count last) ≡ macro_offsets (new_macro name arity list is_logical text)
+pub appended_offsets : (m : Macro) (count : ℕ) (last : List ℕ) → IsAppended m count last → offsets_of (formals_read count last) ≡ macro_offsets m
 unfolding macro_offsets
-appended_offsets name arity list size is_logical text count last a = ap offsets_of a.read
+appended_offsets m count last a = ap offsets_of a.read
 
 -- they are few
-pub appended_few : (arity : Option ℕ) (list : List ℕ) (size count : ℕ) (last : List ℕ) → IsList arity list size → IsAppended arity list size count last → length (offsets_of (formals_read count last)) ≤ 2 * (size / 4)
-appended_few arity list size count last l a =
-    omega (arith, ap (λ (fs : List Formal). length (offsets_of fs)) a.read, few_offsets_of (unwrap_or (list_formals arity list) []), l.size_is)
+pub appended_few : (m : Macro) (count : ℕ) (last : List ℕ) → IsAppended m count last → length (offsets_of (formals_read count last)) ≤ 2 * (list_size m / 4)
+unfolding list_size
+appended_few m count last a = omega (arith, ap (λ (fs : List Formal). length (offsets_of fs)) a.read, few_offsets_of (formals_of m))
 
 -- the first stops of its body are told by its formals and its body
-pub new_points : (name : List ℕ) (arity : Option ℕ) (list : List ℕ) (size : ℕ) (is_logical : Bool) (text named listed all : List ℕ) (from to count : ℕ) (points : PointCache) → IsList arity list size → listed ≡ named ++ flat_map formal_bytes (unwrap_or (list_formals arity list) []) → all ≡ listed ++ body_of_text is_logical text → from ≡ length named → to ≡ length listed → count ≡ unwrap_or arity 0 → points ≡ points_told all from to count → (let m : Macro = new_macro name arity list is_logical text in points ≡ cached_points (formals_of m) m.body)
-new_points name arity list size is_logical text named listed all from to count points l e f i j n h =
+pub new_points : (m : Macro) (named listed all : List ℕ) (arity : Option ℕ) (from to count : ℕ) (points : PointCache) → is_plain_macro m ≡ true → listed ≡ named ++ flat_map formal_bytes (formals_of m) → all ≡ listed ++ m.body → from ≡ length named → to ≡ length listed → arity ≡ option_map length m.formals → count ≡ unwrap_or arity 0 → points ≡ points_told all from to count → points ≡ cached_points (formals_of m) m.body
+new_points m named listed all arity from to count points p e f i j a n h =
+    let k : count ≡ length (formals_of m) = n ∙ count_of m arity a in
     grind (arith, common_steps, append_assoc, between_parts, length-append, same_formals)
 
-pub new_entry : (start formal_offsets : ℕ) (name : List ℕ) (arity : Option ℕ) (list : List ℕ) (size : ℕ) (is_logical : Bool) (text : List ℕ) (len : ℕ) (points : PointCache) → IsNew name arity list size is_logical text len → (let m : Macro = new_macro name arity list is_logical text in points ≡ cached_points (formals_of m) m.body) → (let e : Entry = record { start = start; name_len = length name; list_len = size; body_len = len; arity = arity; formal_offsets = formal_offsets; points = points } in e) ≡ entry_of start formal_offsets (new_macro name arity list is_logical text)
-unfolding entry_of list_size
-new_entry start formal_offsets name arity list size is_logical text len points n h = grind (arith, left_len)
-
-pub new_plain : (name : List ℕ) (arity : Option ℕ) (list : List ℕ) (size : ℕ) (is_logical : Bool) (text : List ℕ) → IsList arity list size → is_plain_macro (new_macro name arity list is_logical text) ≡ true
-unfolding is_plain_macro
-new_plain name arity list size is_logical text l = l.plain
-
--- a list without formals
-no_length : (o : Option (List Formal)) → unwrap_or (option_map length o) 0 ≡ 0 → unwrap_or o [] ≡ []
-no_length None e = refl
-no_length (Some fs) e = nil_from_length fs e
-
-pub no_formals : (arity : Option ℕ) (list : List ℕ) (size : ℕ) (items : List ℕ) → IsList arity list size → unwrap_or arity 0 ≡ 0 → items ≡ items ++ flat_map formal_bytes (unwrap_or (list_formals arity list) [])
-no_formals arity list size items l e =
-    sym (ap (λ (fs : List Formal). items ++ flat_map formal_bytes fs) (no_length (list_formals arity list) (ap (λ (o : Option ℕ). unwrap_or o 0) l.arity_is ∙ e)) ∙ append-nil items)
-
--- a list that has formals
-pub record HasFormals (arity : Option ℕ) (list : List ℕ) : Type 0 where
-  pub is_read : is_some (listed (formals_in 255 [] (as_read true list))) ≡ true
-  pub same : unwrap_or (list_formals arity list) [] ≡ unwrap_or (listed (formals_in 255 [] (as_read true list))) []
-
-by_length : (o : Option (List Formal)) (n : ℕ) → option_map length o ≡ Some n → is_some o ≡ true
-by_length None n e = absurd (cc)
-by_length (Some fs) n e = refl
-
-listed_count : (text : List ℕ) (n : ℕ) → option_map length (listed (formals_of_list text)) ≡ Some n → 0 < n → formals_of_list text ≡ formals_in 255 [] text
-unfolding formals_of_list listed
-listed_count text n e h = grind (arith, cases_Bool, cond-true, cond-false)
-
-pub has_formals : (arity : Option ℕ) (list : List ℕ) (size : ℕ) → IsList arity list size → 0 < unwrap_or arity 0 → HasFormals arity list
-unfolding list_formals
-has_formals None list size l h = absurd (omega arith)
-has_formals (Some n) list size l h =
-    let e : formals_of_list (as_read true list) ≡ formals_in 255 [] (as_read true list) = listed_count (as_read true list) n l.arity_is h in
-    grind (arith, by_length)
-
--- what is appended of a body's text is what is left of it
-pub body_is : (is_logical : Bool) (text : List ℕ) → trimmed_left (trims false) (cleared (start_level false) (as_read is_logical text)) ≡ body_of_text is_logical text
-unfolding start_level
-body_is is_logical text = refl
-
--- a list that was read
-pub list_is : (list following : List ℕ) (count size : ℕ) → (formals : List Formal) × IsRead (formals_of_list (as_read true list)) following count size formals → (IsList (Some count) list size) × (formals_of_list (as_read true list) ≡ Listed (list_formals (Some count) list) following)
-unfolding list_formals listed
-list_is list following count size r = grind arith
-
-pub no_list_is : (list : List ℕ) → IsList None list 0
-unfolding list_formals
-no_list_is list = record { size_is = refl; arity_is = refl; plain = refl }
+pub new_entry : (start formal_offsets : ℕ) (m : Macro) (size len : ℕ) (arity : Option ℕ) (points : PointCache) → size ≡ list_size m → len ≡ length m.body → arity ≡ option_map length m.formals → points ≡ cached_points (formals_of m) m.body → (let e : Entry = record { start = start; name_len = length m.name; list_len = size; body_len = len; arity = arity; formal_offsets = formal_offsets; points = points } in e) ≡ entry_of start formal_offsets m
+unfolding entry_of
+new_entry start formal_offsets m size len arity points s b a h = grind arith

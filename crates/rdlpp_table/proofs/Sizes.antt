@@ -1,5 +1,6 @@
 -- Sizes, and the ranges of limits.
-use Rattle.std.proofs.Common.{◌≡◌, ℕ, zero, suc, ◌+◌, ◌-◌, ◌≤◌, Bool, cond, ltb, one-add, List, [], ◌∷◌, length, get_or, Option, Some, None, option_map, refl, ap, sym, ◌∙◌, arith, ◌*◌, ◌/◌, true, false, Vec, Global, vec_len, rules, ◌<◌, ◌++◌, take, unwrap_or, sum_by, length-append, add-zero, is_some, drop, leb, All, find, flat_map, position, le-leb, le-ltb, leb-true, lt-ltb, length-drop}
+use Rattle.rdlpp_define.proofs.Sizes.{count_items, length_list_bytes}
+use Rattle.std.proofs.Common.{◌≡◌, ℕ, zero, suc, ◌+◌, ◌-◌, ◌≤◌, Bool, cond, ltb, one-add, List, [], ◌∷◌, length, get_or, Option, Some, None, option_map, refl, ap, sym, ◌∙◌, arith, ◌*◌, ◌/◌, true, false, Vec, Global, vec_len, ◌<◌, ◌++◌, take, unwrap_or, sum_by, length-append, add-zero, is_some, drop, leb, All, find, flat_map, position, le-leb, le-ltb, leb-true, lt-ltb, length-drop}
 use Rattle.std.specs.List.{IsDistinct}
 use Rattle.std.proofs.lemmas.Bool.{and_from, and_parts, cases_Bool, cases_lt, cond-false, cond-true}
 use Rattle.std.proofs.lemmas.Bool.Decides.{leb_tells}
@@ -14,9 +15,10 @@ use Rattle.rdlpp_table.specs.PointCache.{cached_points}
 use Rattle.rdlpp_table.specs.Layout.{IsHeld, view_of}
 use Rattle.rdlpp_table.specs.Limits.{AreInRange, IsWithin, is_within, limit_fault}
 use Rattle.rdlpp_table.specs.FormalOffsets.{halves, has_offsets, macro_offsets, offsets_of, starts_of, table_offsets}
-use Rattle.rdlpp_table.specs.Store.{IsStored, body_start, entries_of, entry_end, entry_of, list_size, list_start, macro_in, macros_in}
-use Rattle.rdlpp_table.specs.Table.{Formal, Macro, default_bytes, default_size, formal_bytes, formal_size, macro_bytes, macro_named, macro_size, table_bytes, table_size}
-use Rattle.rdlpp_table.specs.View.{TableView, formals_of, macro_at, no_macro, place_named}
+use Rattle.rdlpp_table.specs.Store.{IsStored, body_start, entries_of, entry_end, entry_of, list_start, macro_in, macros_in}
+use Rattle.rdlpp_define.specs.Macros.{list_size, Formal, Macro, formal_bytes, formal_size, macro_size, formals_of}
+use Rattle.rdlpp_table.specs.Table.{macro_bytes, macro_named, table_bytes, table_size}
+use Rattle.rdlpp_table.specs.View.{TableView, macro_at, no_macro, place_named}
 use Rattle.rdlpp_table.specs.declared.entry.Entry.{Entry}
 use Rattle.rdlpp_table.specs.declared.limits.LimitFault.{LimitFault}
 use Rattle.rdlpp_table.specs.declared.limits.Limits.{Limits}
@@ -42,10 +44,6 @@ position_first p x xs = grind (arith, cases_Bool, cond-true, lt-ltb, one-add, pl
 abbrev pub no_entry : Entry
 no_entry = record { start = 0; name_len = 0; list_len = 0; body_len = 0; arity = None; formal_offsets = 0; points = record { all = [] } }
 
--- a list counts its items
-pub count_items : {A : Type 0} (v : Vec A Global) → vec_len v ≡ length v.items
-count_items v = search rules
-
 pub table_size-cons : (m : Macro) (ms : List Macro) → table_size (m ∷ ms) ≡ macro_size m + table_size ms
 unfolding table_size
 table_size-cons m ms = sum_by-cons macro_size m ms
@@ -53,29 +51,6 @@ table_size-cons m ms = sum_by-cons macro_size m ms
 pub table_size-append : (xs ys : List Macro) → table_size (xs ++ ys) ≡ table_size xs + table_size ys
 unfolding table_size
 table_size-append xs ys = sum_by-append macro_size xs ys
-
-length_default : (text : List ℕ) → length (default_bytes text) ≡ default_size text
-unfolding default_bytes default_size
-length_default [] = refl
-length_default (b ∷ bs) = omega arith
-
--- a default text is no longer than what it counts
-pub default_least : (text : List ℕ) → length text ≤ default_size text
-unfolding default_size
-default_least [] = omega arith
-default_least (b ∷ bs) = omega arith
-
-pub length_formal_bytes : (f : Formal) → length (formal_bytes f) ≡ formal_size f
-unfolding formal_bytes formal_size
-length_formal_bytes f =
-    omega (arith, length-append f.name (default_bytes f.text ++ 44 ∷ []), length-append (default_bytes f.text) (44 ∷ []), length_default f.text)
-
-pub one_size : (f : Formal) → sum_by formal_size (f ∷ []) ≡ formal_size f
-one_size f = omega (arith, sum_by-cons formal_size f [])
-
-pub length_list_bytes : (fs : List Formal) → length (flat_map formal_bytes fs) ≡ sum_by formal_size fs
-length_list_bytes [] = refl
-length_list_bytes (f ∷ fs) = grind (arith, length-append, length_formal_bytes, sum_by-cons, (length_list_bytes fs))
 
 pub length_macro_bytes : (m : Macro) → length (macro_bytes m) ≡ macro_size m
 unfolding macro_bytes macro_size
@@ -120,9 +95,9 @@ entry_of_macro start formal_offsets (m ∷ ms) zero d h =
 entry_of_macro start formal_offsets (m ∷ ms) (suc i) d h =
     grind (arith, sum_by-cons, length_offsets-cons, (entry_of_macro (start + macro_size m) (formal_offsets + length (macro_offsets m)) ms i d (omega arith)))
 
-count_of : (o : Option (List Formal)) → unwrap_or (option_map length o) 0 ≡ length (unwrap_or o [])
-count_of None = refl
-count_of (Some fs) = refl
+pub count_formals : (o : Option (List Formal)) → unwrap_or (option_map length o) 0 ≡ length (unwrap_or o [])
+count_formals None = refl
+count_formals (Some fs) = refl
 
 pub length_starts : (at : ℕ) (fs : List Formal) → length (starts_of at fs) ≡ length fs
 unfolding starts_of
@@ -147,7 +122,7 @@ length_offsets_of fs = grind (arith, length_start_halves)
 -- how many offsets an entry has
 pub offsets_len_of : (start formal_offsets : ℕ) (m : Macro) → offsets_len (entry_of start formal_offsets m) ≡ length (macro_offsets m)
 unfolding offsets_len entry_of list_size macro_offsets
-offsets_len_of start formal_offsets m = grind (arith, count_of, length_offsets_of)
+offsets_len_of start formal_offsets m = grind (arith, count_formals, length_offsets_of)
 
 -- formals have at most two offsets each
 pub two_offsets : (fs : List Formal) → length (offsets_of fs) ≤ 2 * length fs

@@ -2,8 +2,7 @@
 -- A definition that names no source is this project's own.
 use Rattle.std.specs.Prelude.{ℕ, ◌+◌, ◌*◌, ◌/◌, ◌%◌, Bool, List, [], ◌∷◌, length, nat_le, nat_lt, slice_index, sum_by, if◌then◌else◌}
 use Rattle.std.specs.List.{flat_map}
-use Rattle.rdlpp_table.specs.Table.{Formal, Macro, formal_size}
-use Rattle.rdlpp_table.specs.View.{formals_of}
+use Rattle.rdlpp_define.specs.Macros.{Formal, Macro, formal_size, formals_of}
 
 -- where each formal begins among the bytes of formals, of which the first begins at a place
 unfoldable pub starts_of : ℕ → List Formal → List ℕ

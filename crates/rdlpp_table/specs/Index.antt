@@ -6,7 +6,7 @@ use Rattle.std.specs.declared.cmp.Ordering.TheVariants.{Less, Greater}
 use Rattle.std.specs.Cmp.Lexicographic.{slice_cmp}
 use Rattle.std.specs.Ordering.{nat_cmp}
 use Rattle.std.specs.Slice.Scan.{big_endian}
-use Rattle.rdlpp_table.specs.Table.{Macro}
+use Rattle.rdlpp_define.specs.Macros.{Macro}
 
 -- how two names stand to one another, byte by byte
 abbrev pub name_order : List ℕ → List ℕ → Ordering

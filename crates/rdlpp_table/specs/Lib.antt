@@ -5,12 +5,10 @@ pub mod Shapes
 pub mod PointCache
 pub mod Limits
 pub mod FormalOffsets
-pub mod Define
+pub mod Stored
 pub mod Store
 pub mod Entries
 pub mod Index
 pub mod Buckets
 pub mod IndexView
-pub mod NewMacro
 pub mod Layout
-pub mod Formals

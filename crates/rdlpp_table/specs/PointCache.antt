@@ -7,11 +7,11 @@ use Rattle.rdlpp_scan.specs.LexFaults.{is_plain_argument}
 use Rattle.rdlpp_table.specs.declared.point_cache.PointCache.{PointCache}
 use Rattle.rdlpp_table.specs.declared.point_cache.PackedPoint.{PackedPoint}
 use Rattle.rdlpp_table.specs.declared.point_cache.PackedKind.{PackedKind}
-use Rattle.rdlpp_table.specs.declared.point_cache.PackedKind.TheVariants as kept
 use Rattle.rdlpp_table.specs.declared.point.ExpansionPoint.{ExpansionPoint}
-use Rattle.rdlpp_table.specs.declared.point.ExpansionPoint.TheVariants as point
 use Rattle.rdlpp_table.specs.ExpansionPoints.{point_of}
-use Rattle.rdlpp_table.specs.Table.{Formal}
+use Rattle.rdlpp_define.specs.Macros.{Formal}
+use Rattle.rdlpp_table.specs.declared.point_cache.PackedKind.TheVariants as kept
+use Rattle.rdlpp_table.specs.declared.point.ExpansionPoint.TheVariants as point
 
 -- where an expansion point ends, and 0 where there is none
 unfoldable pub point_end : ExpansionPoint → ℕ

@@ -1,7 +1,7 @@
 -- Of which shapes the names of formals are: of most words of a body it tells at once that they are no formals.
 -- A definition that names no source is this project's own.
 use Rattle.std.specs.Prelude.{◌≡◌, ◌+◌, ◌-◌, ◌*◌, ◌%◌, ℕ, Bool, true, List, [], ◌∷◌, is_some, length, slice_index, slice_index_or, slice_set}
-use Rattle.rdlpp_table.specs.Table.{Formal}
+use Rattle.rdlpp_define.specs.Macros.{Formal}
 use Rattle.rdlpp_table.specs.View.{formal_named}
 
 -- the shape of a name: the low bits of its first byte, and of its last byte and its length together

@@ -1,22 +1,15 @@
 -- How a table lies in its two lists: the bytes of its macros one after another, and an entry for each.
 -- A definition that names no source is this project's own.
-use Rattle.std.specs.Prelude.{◌≡◌, ℕ, zero, suc, ◌+◌, ◌-◌, ◌≤◌, Bool, true, not, ◌&&◌, ◌||◌, ◌==◌, List, [], ◌∷◌, length, take, drop, map, slice_index, slice_range, sum_by, Some, option_map, unwrap_or, is_none, if◌then◌else◌}
+use Rattle.rdlpp_define.specs.Plain.{is_name_byte, is_plain_formal, is_plain_macro}
+use Rattle.rdlpp_define.specs.Macros.{list_size, Formal, Macro, macro_size, formal_bytes, formals_of}
+use Rattle.std.specs.Prelude.{◌≡◌, ℕ, zero, suc, ◌+◌, ◌-◌, ◌≤◌, true, ◌==◌, List, [], ◌∷◌, length, take, drop, map, slice_index, slice_range, Some, option_map, if◌then◌else◌}
 use Rattle.std.specs.List.{flat_map, prefix_len, list_all}
-use Rattle.rdlpp_scan.specs.declared.token.Mode.TheVariants.{Plain}
-use Rattle.rdlpp_scan.specs.declared.token.Token.{Token}
-use Rattle.rdlpp_scan.specs.Comments.{is_line_comment}
-use Rattle.rdlpp_scan.specs.LexFaults.{lex_fault_from}
-use Rattle.rdlpp_scan.specs.Tokens.{tokens_from}
-use Rattle.rdlpp_scan.specs.KeptText.{cleared, ends_default, level_after, text_after}
-use Rattle.rdlpp_table.specs.Table.{Formal, Macro, macro_size, table_bytes, formal_bytes, formal_size}
+use Rattle.rdlpp_scan.specs.KeptText.{cleared, text_after}
+use Rattle.rdlpp_table.specs.Table.{table_bytes}
 use Rattle.rdlpp_table.specs.FormalOffsets.{macro_offsets, offsets_of}
-use Rattle.rdlpp_table.specs.View.{formals_of}
 use Rattle.rdlpp_table.specs.PointCache.{cached_points}
+use Rattle.rdlpp_table.specs.declared.point_cache.PointCache.{PointCache}
 use Rattle.rdlpp_table.specs.declared.entry.Entry.{Entry}
-
--- the bytes of a macro's formals
-unfoldable pub list_size : Macro → ℕ
-list_size m = sum_by formal_size (unwrap_or m.formals [])
 
 -- the entry of a macro whose bytes begin at a place, and its offsets at another one
 unfoldable pub entry_of : ℕ → ℕ → Macro → Entry
@@ -26,10 +19,6 @@ entry_of start formal_offsets m = record { start = start; name_len = length m.na
 unfoldable pub entries_of : ℕ → ℕ → List Macro → List Entry
 entries_of start formal_offsets [] = []
 entries_of start formal_offsets (m ∷ ms) = entry_of start formal_offsets m ∷ entries_of (start + macro_size m) (formal_offsets + length (macro_offsets m)) ms
-
--- a byte of a formal's name in a table's bytes: neither the `,` nor the `=` that stands behind it
-unfoldable pub is_name_byte : ℕ → Bool
-is_name_byte b = not (b == 44 || b == 61)
 
 -- what stands behind a default text with which bytes of a table begin, from its `,` on
 unfoldable pub after_stored : List ℕ → List ℕ
@@ -88,27 +77,6 @@ macro_in bytes e = record { name = name_of bytes e; formals = option_map (λ n. 
 unfoldable pub macros_in : List ℕ → List Entry → List Macro
 macros_in bytes entries = map (macro_in bytes) entries
 
--- whether tokens of a text go on from a level up to its end and are at level 0 there, and none of them ends a default text before
-unfoldable pub fills : ℕ → List Token → List ℕ → Bool
-fills level [] text = level == 0
-fills level (t ∷ ts) text = not (level == 0 && ends_default t.kind (slice_index text 0)) && fills (level_after t.kind level) ts (drop t.len text)
-
--- whether a text is read whole: no lexical fault, and no `//` comment
-unfoldable pub is_clean : List ℕ → Bool
-is_clean text = is_none (lex_fault_from Plain text) && list_all (λ t. not (is_line_comment t.kind)) (tokens_from Plain 0 text)
-
--- whether a default text is read back up to the `,` behind it
-unfoldable pub is_default : List ℕ → Bool
-is_default text = is_clean text && fills 0 (tokens_from Plain 0 text) text
-
--- whether a formal can be told from its bytes: its name has neither `,` nor `=`, and its default text is read back
-unfoldable pub is_plain_formal : Formal → Bool
-is_plain_formal f = list_all is_name_byte f.name && is_default f.text
-
--- whether all formals of a macro can be told from their bytes
-unfoldable pub is_plain_macro : Macro → Bool
-is_plain_macro m = list_all is_plain_formal (unwrap_or m.formals [])
-
 -- the entries that aren't given up, where so many at the front are
 abbrev pub live : ℕ → List Entry → List Entry
 live front entries = drop front entries
@@ -126,3 +94,7 @@ pub record AreStoredFormals (count : ℕ) (list formal_offsets : List ℕ) : Typ
   pub whole : flat_map formal_bytes (formals_read count list) ≡ list
   pub plain : list_all is_plain_formal (formals_read count list) ≡ true
   pub marked : formal_offsets ≡ offsets_of (formals_read count list)
+
+-- the first expansion points of the body behind a place of a table's bytes, by so many formals between two places
+abbrev pub points_told : List ℕ → ℕ → ℕ → ℕ → PointCache
+points_told bytes list body count = cached_points (formals_read count (slice_range bytes list body)) (drop body bytes)

@@ -9,8 +9,9 @@ ghost use Rattle.rdlpp_table.specs.Entries.{AreWithin};
 ghost use Rattle.rdlpp_table.specs.FormalOffsets.{offsets_of};
 ghost use Rattle.rdlpp_table.specs.Index.{bucket_of, closed, names_of, IsCounted, IsFound, IsIndexed};
 ghost use Rattle.rdlpp_table.specs.IndexView.{empty_index, places_in, places_room, AreMoved, Enters, IsInBucket, IsSpaced, Leaves};
-ghost use Rattle.rdlpp_table.specs.Store.{formals_read, is_plain_formal, live, macros_in, IsStored};
-ghost use Rattle.rdlpp_table.specs.Table.{formal_bytes};
+ghost use Rattle.rdlpp_table.specs.Store.{formals_read, live, macros_in, IsStored};
+ghost use Rattle.rdlpp_define.specs.Plain.{is_plain_formal};
+ghost use Rattle.rdlpp_define.specs.Macros.{formal_bytes};
 ghost use Rattle.rdlpp_table.specs.View.{place_named};
 
 use crate::buckets::{BucketStarts, GROUP, bucket_of, move_down, move_up};

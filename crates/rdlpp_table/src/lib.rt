@@ -4,13 +4,10 @@
 mod buckets;
 mod entry;
 mod fault;
-mod formals;
 mod given_up;
-mod header;
 mod index;
 mod limits;
 mod lookup;
-mod name;
 mod offsets;
 mod point;
 mod point_cache;
@@ -19,9 +16,8 @@ mod stored;
 mod storing;
 mod table;
 
-pub use fault::{DefineFault, DefineKind, NoMemory};
+pub use fault::NoMemory;
 pub use limits::{LimitFault, Limits};
 pub use lookup::Steps;
-pub use name::word_of;
 pub use point::ExpansionPoint;
 pub use table::{MacroId, Table};

@@ -3,8 +3,9 @@ ghost use Rattle.std.specs.Prelude.{[], bytes_eq, false, length, not, replicate,
 ghost use Rattle.std.specs.List.{flat_map, list_all};
 ghost use Rattle.rdlpp_table.specs.FormalOffsets.{end_in, has_offsets, offset_in, offsets_of};
 ghost use Rattle.rdlpp_table.specs.Shapes.{shapes_of};
-ghost use Rattle.rdlpp_table.specs.Store.{formal_read, formals_read, is_name_byte, is_plain_formal, AreStoredFormals};
-ghost use Rattle.rdlpp_table.specs.Table.{formal_bytes};
+ghost use Rattle.rdlpp_table.specs.Store.{formal_read, formals_read, AreStoredFormals};
+ghost use Rattle.rdlpp_define.specs.Plain.{is_name_byte, is_plain_formal};
+ghost use Rattle.rdlpp_define.specs.Macros.{formal_bytes};
 ghost use Rattle.rdlpp_table.specs.View.{formal_at, formal_named};
 
 use crate::stored::{
@@ -107,7 +108,7 @@ fn byte_at(bytes: &[u8], place: usize) -> u8
 }
 
 // Whether no name goes on at a place.
-#[tactic(auto, unfolding(crate::specs::Store::is_name_byte))]
+#[tactic(auto, unfolding(rdlpp_define::specs::Plain::is_name_byte))]
 fn ends_name(bytes: &[u8], place: usize) -> bool
     ensures { result ≡ not (is_name_byte (slice_index_or bytes.now place 44)) }
 {

@@ -1,22 +1,10 @@
 // The first expansion points of a body, which are looked for once and kept in its entry.
 ghost use Rattle.std.specs.Prelude.{length, slice_range, IfSome, List, ℕ, ◌+◌, ◌<◌, ◌≡◌, ◌≤◌, ◌^◌};
-ghost use Rattle.rdlpp_table.specs.PointCache.{
-  before_point,
-  plain_argument_kept,
-  endless,
-  cached_points,
-  kept_from,
-  kept_of,
-  placed,
-  point_by,
-  point_end,
-  point_known,
-  point_within,
-};
+ghost use Rattle.rdlpp_table.specs.PointCache.{before_point, plain_argument_kept, endless, cached_points, kept_from, kept_of, placed, point_by, point_end, point_known, point_within};
 ghost use Rattle.rdlpp_table.specs.Shapes.{AreShapes};
 ghost use Rattle.rdlpp_table.specs.ExpansionPoints.{point_of};
 ghost use Rattle.rdlpp_table.specs.Store.{formals_read, AreStoredFormals};
-ghost use Rattle.rdlpp_table.specs.Table.{Formal};
+ghost use Rattle.rdlpp_define.specs.Macros.{Formal};
 
 use crate::offsets::{StoredFormals, shapes};
 use crate::point::{ExpansionPoint, next_expansion_point};

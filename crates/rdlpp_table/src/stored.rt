@@ -2,7 +2,8 @@
 ghost use Rattle.std.specs.Prelude.{drop, length, ◌<◌, ◌≡◌, ◌≤◌};
 ghost use Rattle.std.specs.List.{prefix_len};
 ghost use Rattle.rdlpp_table.specs.Shapes.{shape};
-ghost use Rattle.rdlpp_table.specs.Store.{formal_read, formals_read, is_name_byte};
+ghost use Rattle.rdlpp_table.specs.Store.{formal_read, formals_read};
+ghost use Rattle.rdlpp_define.specs.Plain.{is_name_byte};
 ghost use Rattle.rdlpp_table.specs.View.{formal_at, formal_named};
 
 use rdlpp_scan::{after_default, byte_at};
@@ -11,7 +12,7 @@ use rdlpp_scan::{after_default, byte_at};
 pub(crate) const SHAPES: usize = 256;
 
 // How many bytes of a formal's name bytes begin with.
-#[tactic(auto, unfolding(crate::specs::Store::is_name_byte))]
+#[tactic(auto, unfolding(rdlpp_define::specs::Plain::is_name_byte))]
 pub(crate) fn name_len(bytes: &[u8]) -> usize
     ensures value { result ≡ prefix_len is_name_byte bytes.now }
     ensures inside { result ≤ length bytes.now }

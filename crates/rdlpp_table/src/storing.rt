@@ -18,46 +18,21 @@ ghost use Rattle.std.specs.Prelude.{
   ◌^◌,
   ◌∷◌,
 };
-ghost use Rattle.std.specs.List.{flat_map, IsDistinct};
+ghost use Rattle.std.specs.List.{IsDistinct};
 ghost use Rattle.rdlpp_table.specs.Index.{bucket_of, names_of, IsFound, IsIndexed};
 ghost use Rattle.rdlpp_table.specs.FormalOffsets.{table_offsets};
 ghost use Rattle.rdlpp_table.specs.Store.{live, macros_in, IsStored};
-ghost use Rattle.rdlpp_table.specs.Table.{formal_bytes, table_size, without};
-ghost use Rattle.rdlpp_table.specs.NewMacro.{list_formals, new_macro, IsList, IsNew};
+ghost use Rattle.rdlpp_table.specs.Table.{table_size, without};
+ghost use Rattle.rdlpp_define.specs.Macros.{list_size, macro_size};
 
 use crate::entry::Entry;
-use crate::formals::append_list;
 use crate::given_up::{GivenUp, live};
 use crate::index::{Index, seek_named};
 use crate::offsets::StoredFormals;
 use crate::point_cache::cached_points;
 use crate::removal::{remove_named, settle, size_of_entry};
-use rdlpp_scan::{append_part, append_trimmed};
-
-// A macro that is to be stored: its body is read from a text, of a logical line or as it stands.
-#[derive(Clone, Copy, Drop)]
-pub(crate) struct NewMacro<'a> {
-    pub(crate) name: &'a [u8],
-    pub(crate) arity: Option<usize>,
-    // The text of the formal list behind its `(`, where it has formals, and how many bytes they are.
-    pub(crate) list: &'a [u8],
-    pub(crate) list_len: usize,
-    pub(crate) is_logical: bool,
-    pub(crate) text: &'a [u8],
-    pub(crate) body_len: usize,
-}
-
-// Appends the formals of a macro.
-fn append_formals(bytes: &mut Vec<u8>, new: &NewMacro)
-    requires listed { IsList new.now.arity new.now.list.now new.now.list_len }
-    requires room { vec_len bytes.old + new.now.list_len ≤ vec_capacity bytes.old }
-    ensures items { bytes.new.items ≡ bytes.old.items ++ flat_map formal_bytes (unwrap_or (list_formals new.now.arity new.now.list.now) []) }
-    ensures capacity { vec_capacity bytes.new ≡ vec_capacity bytes.old }
-{
-    if new.arity.unwrap_or(0) > 0 {
-        append_list(bytes, new.list);
-    }
-}
+use rdlpp_define::NewMacro;
+use rdlpp_scan::append_part;
 
 // How many formals a macro has, in a small number.
 fn small_arity(arity: Option<usize>) -> Option<u8>
@@ -76,34 +51,31 @@ fn put(
     entries: &mut Vec<Entry>,
     front: &GivenUp,
     index: &mut Index,
-    new: &NewMacro,
+    new: &NewMacro<'_>,
 )
     requires stored { IsStored front.now.bytes front.now.formal_offsets bytes.old.items (live front.now.entries entries.old.items) (macros_in bytes.old.items (live front.now.entries entries.old.items)) }
     requires given_up { front.now.entries ≤ vec_len entries.old }
-    requires counted { IsNew new.now.name.now new.now.arity new.now.list.now new.now.list_len new.now.is_logical new.now.text.now new.now.body_len }
     requires marked { index.old.formal_offsets ≡ table_offsets (macros_in bytes.old.items (live front.now.entries entries.old.items)) }
-    requires room { vec_len bytes.old + (length new.now.name.now + (new.now.list_len + new.now.body_len)) ≤ vec_capacity bytes.old }
+    requires room { vec_len bytes.old + macro_size new.now ≤ vec_capacity bytes.old }
     requires entry_room { vec_len entries.old < vec_capacity entries.old }
-    requires offset_room { length index.old.formal_offsets + 2 * (new.now.list_len / 4) ≤ index.old.room.formal_offsets }
-    requires small { new.now.list_len < 2 ^ 32 }
+    requires offset_room { length index.old.formal_offsets + 2 * (list_size new.now / 4) ≤ index.old.room.formal_offsets }
+    requires small { list_size new.now < 2 ^ 32 }
     requires narrow { vec_capacity bytes.old < 2 ^ 32 }
-    requires short { length new.now.name.now < 256 }
-    requires few_formals { unwrap_or new.now.arity 0 < 256 }
-    ensures stored { IsStored front.now.bytes front.now.formal_offsets bytes.new.items (live front.now.entries entries.new.items) (macros_in bytes.old.items (live front.now.entries entries.old.items) ++ new_macro new.now.name.now new.now.arity new.now.list.now new.now.is_logical new.now.text.now ∷ []) }
+    ensures stored { IsStored front.now.bytes front.now.formal_offsets bytes.new.items (live front.now.entries entries.new.items) (macros_in bytes.old.items (live front.now.entries entries.old.items) ++ new.now ∷ []) }
     ensures given_up { front.now.entries ≤ vec_len entries.new }
     ensures longer { (vec_len bytes.old ≤ vec_len bytes.new) × (vec_len entries.old ≤ vec_len entries.new) }
-    ensures index { index.new ≡ record index.old { formal_offsets = table_offsets (macros_in bytes.old.items (live front.now.entries entries.old.items) ++ new_macro new.now.name.now new.now.arity new.now.list.now new.now.is_logical new.now.text.now ∷ []) } }
+    ensures index { index.new ≡ record index.old { formal_offsets = table_offsets (macros_in bytes.old.items (live front.now.entries entries.old.items) ++ new.now ∷ []) } }
     ensures capacity { (vec_capacity bytes.new ≡ vec_capacity bytes.old) × (vec_capacity entries.new ≡ vec_capacity entries.old) }
 {
     let start = bytes.len();
-    append_part(bytes, new.name);
+    append_part(bytes, new.name());
     let list = bytes.len();
-    append_formals(bytes, new);
+    new.append_formals(bytes);
     let body = bytes.len();
     let first = index.formal_offsets().len();
-    let count = new.arity.unwrap_or(0);
+    let count = new.arity().unwrap_or(0);
     index.push_offsets(&bytes[list..], count);
-    append_trimmed(bytes, new.text, new.is_logical, false, new.body_len);
+    new.append_body(bytes);
     let stored = bytes.as_slice();
     let formals = StoredFormals {
         list: &stored[list..body],
@@ -113,11 +85,11 @@ fn put(
     let points = cached_points(&formals, &stored[body..]);
     entries.push_reserved(Entry {
         start: start as u32,
-        list_len: new.list_len as u32,
-        body_len: new.body_len as u32,
+        list_len: new.formals_len() as u32,
+        body_len: new.body_len() as u32,
         formal_offsets: (first + front.formal_offsets) as u32,
-        name_len: new.name.len() as u8,
-        arity: small_arity(new.arity),
+        name_len: new.name().len() as u8,
+        arity: small_arity(new.arity()),
         points,
     });
 }
@@ -196,44 +168,37 @@ pub(crate) fn replace(
     entries: &mut Vec<Entry>,
     front: &mut GivenUp,
     index: &mut Index,
-    new: &NewMacro,
+    new: &NewMacro<'_>,
     bucket: usize,
     found: Result<usize, usize>,
 )
     requires stored { IsStored front.old.bytes front.old.formal_offsets bytes.old.items (live front.old.entries entries.old.items) (macros_in bytes.old.items (live front.old.entries entries.old.items)) }
     requires given_up { front.old.entries ≤ vec_len entries.old }
-    requires found { IsFound (names_of (macros_in bytes.old.items (live front.old.entries entries.old.items))) index.old.places new.now.name.now found }
-    requires bucket { bucket ≡ bucket_of new.now.name.now }
+    requires found { IsFound (names_of (macros_in bytes.old.items (live front.old.entries entries.old.items))) index.old.places new.now.name found }
+    requires bucket { bucket ≡ bucket_of new.now.name }
     requires small_bucket { bucket < 1024 }
     requires distinct { IsDistinct bytes_eq (map (λ m. m.name) (macros_in bytes.old.items (live front.old.entries entries.old.items))) }
     requires indexed { IsIndexed (names_of (macros_in bytes.old.items (live front.old.entries entries.old.items))) index.old.places index.old.bucket_starts }
     requires marked { index.old.formal_offsets ≡ table_offsets (macros_in bytes.old.items (live front.old.entries entries.old.items)) }
     requires few { length (live front.old.entries entries.old.items) ≤ 65536 }
-    requires small { new.now.list_len < 2 ^ 32 }
+    requires small { list_size new.now < 2 ^ 32 }
     requires narrow { vec_capacity bytes.old < 2 ^ 32 }
-    requires short { length new.now.name.now < 256 }
-    requires few_formals { unwrap_or new.now.arity 0 < 256 }
-    requires counted { IsNew new.now.name.now new.now.arity new.now.list.now new.now.list_len new.now.is_logical new.now.text.now new.now.body_len }
-    requires room { table_size (without new.now.name.now (macros_in bytes.old.items (live front.old.entries entries.old.items))) + (length new.now.name.now + (new.now.list_len + new.now.body_len)) ≤ vec_capacity bytes.old }
-    requires entry_room { length (without new.now.name.now (macros_in bytes.old.items (live front.old.entries entries.old.items))) < vec_capacity entries.old }
+    requires room { table_size (without new.now.name (macros_in bytes.old.items (live front.old.entries entries.old.items))) + macro_size new.now ≤ vec_capacity bytes.old }
+    requires entry_room { length (without new.now.name (macros_in bytes.old.items (live front.old.entries entries.old.items))) < vec_capacity entries.old }
     requires places { vec_capacity entries.old ≤ 65536 }
-    requires index_room { length (without new.now.name.now (macros_in bytes.old.items (live front.old.entries entries.old.items))) < index.old.room.places }
-    requires offset_room { 2 * ((table_size (without new.now.name.now (macros_in bytes.old.items (live front.old.entries entries.old.items))) + new.now.list_len) / 4) ≤ index.old.room.formal_offsets }
-    ensures stored { IsStored front.new.bytes front.new.formal_offsets bytes.new.items (live front.new.entries entries.new.items) (without new.now.name.now (macros_in bytes.old.items (live front.old.entries entries.old.items)) ++ new_macro new.now.name.now new.now.arity new.now.list.now new.now.is_logical new.now.text.now ∷ []) }
+    requires index_room { length (without new.now.name (macros_in bytes.old.items (live front.old.entries entries.old.items))) < index.old.room.places }
+    requires offset_room { 2 * ((table_size (without new.now.name (macros_in bytes.old.items (live front.old.entries entries.old.items))) + list_size new.now) / 4) ≤ index.old.room.formal_offsets }
+    ensures stored { IsStored front.new.bytes front.new.formal_offsets bytes.new.items (live front.new.entries entries.new.items) (without new.now.name (macros_in bytes.old.items (live front.old.entries entries.old.items)) ++ new.now ∷ []) }
     ensures given_up { front.new.entries ≤ vec_len entries.new }
     ensures few_given_up { (front.new.bytes ≤ vec_len bytes.new - front.new.bytes) × (front.new.entries ≤ vec_len entries.new - front.new.entries) }
-    ensures indexed { IsIndexed (names_of (without new.now.name.now (macros_in bytes.old.items (live front.old.entries entries.old.items)) ++ new_macro new.now.name.now new.now.arity new.now.list.now new.now.is_logical new.now.text.now ∷ [])) index.new.places index.new.bucket_starts }
-    ensures marked { index.new.formal_offsets ≡ table_offsets (without new.now.name.now (macros_in bytes.old.items (live front.old.entries entries.old.items)) ++ new_macro new.now.name.now new.now.arity new.now.list.now new.now.is_logical new.now.text.now ∷ []) }
+    ensures indexed { IsIndexed (names_of (without new.now.name (macros_in bytes.old.items (live front.old.entries entries.old.items)) ++ new.now ∷ [])) index.new.places index.new.bucket_starts }
+    ensures marked { index.new.formal_offsets ≡ table_offsets (without new.now.name (macros_in bytes.old.items (live front.old.entries entries.old.items)) ++ new.now ∷ []) }
     ensures room { index.new.room ≡ index.old.room }
     ensures capacity { (vec_capacity bytes.new ≡ vec_capacity bytes.old) × (vec_capacity entries.new ≡ vec_capacity entries.old) }
 {
-    let gap = remove_named(bytes, entries, front, index, new.name, bucket, found);
+    let gap = remove_named(bytes, entries, front, index, new.name(), bucket, found);
     index.enter(gap, entries.len() - front.entries, bucket);
-    make_room(
-        bytes,
-        entries,
-        front,
-        new.name.len() + (new.list_len + new.body_len),
-    );
+    let size = new.name().len() + (new.formals_len() + new.body_len());
+    make_room(bytes, entries, front, size);
     put(bytes, entries, front, index, new);
 }

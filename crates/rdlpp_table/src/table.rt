@@ -1,33 +1,29 @@
 // The table of macros: a list of bytes, one of entries and an index by name, all reserved when the table is made.
-ghost use Rattle.std.specs.Prelude.{◌≡◌, ◌≢◌, ◌<◌, ◌≤◌, ◌==◌, [], length, IfOk, IfSome, IfNone, Some, None, is_some, option_map, OnErr, true, unwrap_or, ◌+◌};
-ghost use Rattle.rdlpp_table.specs.NewMacro.{list_formals, new_macro, IsList, IsNew};
-ghost use Rattle.rdlpp_scan.specs.Continuations.{as_read};
+ghost use Rattle.std.specs.Prelude.{◌≡◌, ◌≢◌, ◌<◌, ◌≤◌, ◌==◌, [], length, IfOk, IfSome, IfNone, Some, None, is_some, option_map, OnErr, ◌+◌};
 ghost use Rattle.rdlpp_table.specs.Index.{IsCounted};
 ghost use Rattle.rdlpp_table.specs.Limits.{AreInRange};
 ghost use Rattle.rdlpp_table.specs.ExpansionPoints.{point_in};
 ghost use Rattle.rdlpp_table.specs.Table.{macro_named, table_bytes, without};
 ghost use Rattle.rdlpp_scan.specs.SourceTokens.{logical_len};
-ghost use Rattle.rdlpp_table.specs.Define.{define_of, name_fault, observed, set_of, stored, stored_draft, with_body, with_list};
+ghost use Rattle.rdlpp_table.specs.Stored.{define_of, observed, set_of, stored};
 ghost use Rattle.rdlpp_table.specs.PointCache.{cached_points};
 ghost use Rattle.rdlpp_table.specs.Store.{entry_end, formals_read, macro_in, AreStoredFormals};
-ghost use Rattle.rdlpp_table.specs.View.{TableView, AreSoundFormals, IsSound, IsSoundMacro, formal_at, formal_named, formals_of, macro_at, place_named};
+ghost use Rattle.rdlpp_table.specs.View.{TableView, IsSound, formal_at, formal_named, macro_at, place_named};
+ghost use Rattle.rdlpp_define.specs.Macros.{formals_of};
 
 use crate::buckets::bucket_of;
 use crate::entry::{Entry, arity_in, body_in, listed_in, name_in};
-use crate::fault::{DefineFault, DefineKind, NoMemory, lexical, refusal};
-use crate::formals::read_list;
+use crate::fault::NoMemory;
 use crate::given_up::{GivenUp, NOTHING, live};
-use crate::header::{after_space, leading_name, list_after, unended};
 use crate::index::{Index, place_in, seek_named};
 use crate::limits::Limits;
 use crate::lookup::Steps;
-use crate::name::check_name;
 use crate::offsets::{LONG_FORMAL, StoredFormals, default_of, place_of};
 use crate::point::{ExpansionPoint, next_expansion_point};
 use crate::point_cache::cached_point;
 use crate::removal::remove_named;
-use crate::storing::{NewMacro, replace, usage_without};
-use rdlpp_scan::{is_name, trimmed_len};
+use crate::storing::{replace, usage_without};
+use rdlpp_define::{DefineFault, DefineKind, NewMacro, read_define, read_named, refusal};
 use std::alloc::Global;
 use std::marker::Model;
 
@@ -369,10 +365,8 @@ impl Table {
         ensures refused { OnErr result (self.new ≡ self.old) }
         ensures limits { (self.new.most_bytes ≡ self.old.most_bytes) × (self.new.most_macros ≡ self.old.most_macros) }
     {
-        let text = after_space(unended(rest));
-        let name = leading_name(text);
-        match check_name(name) {
-            Ok(()) => self.store_named(name, &text[name.len()..]),
+        match read_define(rest) {
+            Ok(new) => self.store(&new),
             Err(fault) => Err(fault),
         }
     }
@@ -389,92 +383,32 @@ impl Table {
         ensures refused { OnErr result (self.new ≡ self.old) }
         ensures limits { (self.new.most_bytes ≡ self.old.most_bytes) × (self.new.most_macros ≡ self.old.most_macros) }
     {
-        if !is_name(name) {
-            return Err(refusal(DefineKind::NameExpected));
-        }
-        match check_name(name) {
-            Ok(()) => self.store_body(name, None, &[], 0, false, text),
+        match read_named(name, text) {
+            Ok(new) => self.store(&new),
             Err(fault) => Err(fault),
         }
     }
 
-    // Stores a macro of a name with what stands behind the name in a logical line.
-    fn store_named(&mut self, name: &[u8], after: &[u8]) -> Result<(), DefineFault>
-        requires short { length name.now ≤ 128 }
-        requires named { name_fault name.now ≡ None }
-        ensures outcome { observed result self.new.macros ≡ stored_draft self.old.most_bytes self.old.most_macros self.old.macros (with_list name.now (as_read true after.now)) }
-        ensures refused { OnErr result (self.new ≡ self.old) }
-        ensures limits { (self.new.most_bytes ≡ self.old.most_bytes) × (self.new.most_macros ≡ self.old.most_macros) }
-    {
-        let Some(text) = list_after(after) else {
-            return self.store_body(name, None, &[], 0, true, after);
-        };
-        match read_list(text) {
-            Ok(read) => self.store_body(
-                name,
-                Some(read.count),
-                text,
-                read.size,
-                true,
-                read.following,
-            ),
-            Err(kind) => Err(refusal(kind)),
-        }
-    }
-
-    // Stores a macro of which the name and the formals are known, with the body of a text.
-    fn store_body(
-        &mut self,
-        name: &[u8],
-        arity: Option<usize>,
-        list: &[u8],
-        list_len: usize,
-        is_logical: bool,
-        text: &[u8],
-    ) -> Result<(), DefineFault>
-        requires named { name_fault name.now ≡ None }
-        requires sound { AreSoundFormals (unwrap_or (list_formals arity list.now) []) }
-        requires listed { IsList arity list.now list_len }
-        ensures outcome { observed result self.new.macros ≡ stored_draft self.old.most_bytes self.old.most_macros self.old.macros (with_body name.now (list_formals arity list.now) (as_read is_logical text.now)) }
-        ensures refused { OnErr result (self.new ≡ self.old) }
-        ensures limits { (self.new.most_bytes ≡ self.old.most_bytes) × (self.new.most_macros ≡ self.old.most_macros) }
-    {
-        match trimmed_len(text, is_logical, false) {
-            Ok(body) => self.store(&NewMacro {
-                name,
-                arity,
-                list,
-                list_len,
-                is_logical,
-                text,
-                body_len: body.len,
-            }),
-            Err(fault) => Err(refusal(lexical(fault))),
-        }
-    }
-
     // Stores a macro behind the others, in the place of one of its name.
-    fn store(&mut self, new: &NewMacro) -> Result<(), DefineFault>
-        requires counted { IsNew new.now.name.now new.now.arity new.now.list.now new.now.list_len new.now.is_logical new.now.text.now new.now.body_len }
-        requires sound { IsSoundMacro (new_macro new.now.name.now new.now.arity new.now.list.now new.now.is_logical new.now.text.now) }
-        ensures outcome { observed result self.new.macros ≡ stored self.old.most_bytes self.old.most_macros self.old.macros (new_macro new.now.name.now new.now.arity new.now.list.now new.now.is_logical new.now.text.now) }
+    fn store(&mut self, new: &NewMacro<'_>) -> Result<(), DefineFault>
+        ensures outcome { observed result self.new.macros ≡ stored self.old.most_bytes self.old.most_macros self.old.macros new.now }
         ensures refused { OnErr result (self.new ≡ self.old) }
         ensures limits { (self.new.most_bytes ≡ self.old.most_bytes) × (self.new.most_macros ≡ self.old.most_macros) }
     {
-        let bucket = bucket_of(new.name);
+        let name = new.name();
+        let bucket = bucket_of(name);
         let rest = usage_without(
             &self.bytes,
             &self.entries,
             &self.front,
             &self.index,
-            new.name,
+            name,
             bucket,
         );
-        let size = new
-            .name
+        let size = name
             .len()
-            .saturating_add(new.list_len)
-            .saturating_add(new.body_len);
+            .saturating_add(new.formals_len())
+            .saturating_add(new.body_len());
         if self.most_bytes - rest.size < size {
             return Err(refusal(DefineKind::DefinitionBytes));
         }

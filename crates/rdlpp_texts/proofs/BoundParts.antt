@@ -8,7 +8,7 @@ use Rattle.std.proofs.lemmas.List.{drop-take, length-map, length-replicate, map-
 use Rattle.std.proofs.lemmas.List.Elements.{All-cons, All-drop, All-head, All-nil, All-tail, filter_passes}
 use Rattle.std.proofs.lemmas.Slice.{between_to_end}
 use Rattle.rdlpp_scan.specs.SourceTokens.{SourceToken}
-use Rattle.rdlpp_table.specs.Table.{Formal, Macro}
+use Rattle.rdlpp_define.specs.Macros.{Formal, Macro}
 use Rattle.rdlpp_meaning.specs.Actuals.{Bound as CallBound, Call, Cut, CallFault, Role, actual_of, after_leading_space, is_space, level_after, not_kept, text_reads, token_role, trimmed}
 use Rattle.rdlpp_meaning.specs.CallScan.{Closed, Split, all_parts, call_of, call_of_scan, is_kept, split, split_by}
 use Rattle.rdlpp_meaning.specs.Expansion.{Opens, UsageFault, bound_parts, bytes_of, is_count, usage_of_call, usage_of_formals}

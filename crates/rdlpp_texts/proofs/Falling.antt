@@ -6,9 +6,10 @@ use Rattle.std.proofs.lemmas.List.Sums.{get_or-le-sum_by}
 use Rattle.rdlpp_scan.specs.Tokens.{token_of}
 use Rattle.rdlpp_scan.specs.declared.token.Mode.TheVariants.{Plain}
 use Rattle.rdlpp_scan.proofs.TokenLens.{token_of-part}
-use Rattle.rdlpp_table.specs.Table.{Formal, Macro, formal_size, macro_size, table_size}
-use Rattle.rdlpp_table.specs.View.{formal_at, formals_of, macro_at}
-use Rattle.rdlpp_table.proofs.Sizes.{default_least}
+use Rattle.rdlpp_define.specs.Macros.{Formal, Macro, formal_size, macro_size, formals_of}
+use Rattle.rdlpp_table.specs.Table.{table_size}
+use Rattle.rdlpp_table.specs.View.{formal_at, macro_at}
+use Rattle.rdlpp_define.proofs.Sizes.{default_least}
 use Rattle.rdlpp_meaning.specs.Opens.{Open, OpenActual, OpenBody, OpenDefault, OpenKind, Texts, found_standing, open_body, open_bytes, own_text, scope_open, scope_text, text_around}
 use Rattle.rdlpp_texts.specs.BoundCalls.{IsBoundCall, range_part}
 use Rattle.rdlpp_texts.specs.Calls.{IsCallBound, IsOpening}

@@ -7,9 +7,9 @@ use Rattle.std.proofs.lemmas.Grind.{common_steps}
 use Rattle.std.proofs.lemmas.List.{drop-set, drop_all, drop_more, length-map, take_rest}
 use Rattle.std.proofs.lemmas.List.Elements.{recursion_from_All}
 use Rattle.rdlpp_scan.specs.declared.token.Mode.TheVariants.{Plain}
-use Rattle.rdlpp_table.specs.Table.{Formal, Macro}
-use Rattle.rdlpp_table.specs.View.{IsSound, IsSoundMacro, TableView, formals_of, macro_at, no_macro}
-use Rattle.rdlpp_table.proofs.Sizes.{count_items}
+use Rattle.rdlpp_define.specs.Macros.{Formal, Macro, IsSoundMacro, formals_of}
+use Rattle.rdlpp_table.specs.View.{IsSound, TableView, macro_at, no_macro}
+use Rattle.rdlpp_define.proofs.Sizes.{count_items}
 use Rattle.rdlpp_meaning.specs.Opens.{Open, OpenBody, open_body}
 use Rattle.rdlpp_meaning.specs.declared.fault.FaultKind.{FaultKind}
 use Rattle.rdlpp_texts.specs.BoundCalls.{AreWithin, IsBoundCall, range_part}

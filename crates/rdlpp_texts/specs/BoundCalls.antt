@@ -5,7 +5,7 @@ use Rattle.std.specs.Prelude.{◌≡◌, ℕ, ◌+◌, ◌++◌, ◌<◌, ◌≤
 use Rattle.std.specs.List.{AllByRecursion}
 use Rattle.rdlpp_scan.specs.declared.token.Mode.TheVariants.{Plain}
 use Rattle.rdlpp_scan.specs.SourceTokens.{SourceToken}
-use Rattle.rdlpp_table.specs.Table.{Formal, Macro}
+use Rattle.rdlpp_define.specs.Macros.{Formal, Macro}
 use Rattle.rdlpp_meaning.specs.declared.fault.FaultKind.{FaultKind}
 use Rattle.rdlpp_meaning.specs.declared.fault.FaultKind.TheVariants.{ArgumentsMissing, ArgumentsOpen, ArgumentCount}
 use Rattle.rdlpp_meaning.specs.State.{Rules}

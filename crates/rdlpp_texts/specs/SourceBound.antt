@@ -4,7 +4,7 @@ use Rattle.rdlpp_meaning.specs.Actuals.{source_reads}
 use Rattle.rdlpp_meaning.specs.Expansion.{Opens, usage_of_formals}
 use Rattle.std.specs.Prelude.{◌≡◌, ℕ, List, drop, Some}
 use Rattle.rdlpp_scan.specs.SourceTokens.{SourceToken}
-use Rattle.rdlpp_table.specs.Table.{Formal, Macro}
+use Rattle.rdlpp_define.specs.Macros.{Formal, Macro}
 use Rattle.rdlpp_meaning.specs.Resumed.{leading}
 use Rattle.rdlpp_meaning.specs.State.{Rules}
 use Rattle.rdlpp_texts.specs.BoundCalls.{ranges_tokens}

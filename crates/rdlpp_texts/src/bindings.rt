@@ -3,7 +3,7 @@ ghost use Rattle.std.specs.Prelude.{◌≡◌, ◌+◌, ◌≤◌, ◌<◌, ◌+
 ghost use Rattle.rdlpp_meaning.specs.Expansion.{bound_parts, is_count};
 ghost use Rattle.rdlpp_meaning.specs.Substitution.{body_tokens};
 ghost use Rattle.rdlpp_meaning.specs.declared.fault.FaultKind.TheVariants.{ArgumentCount};
-ghost use Rattle.rdlpp_table.specs.Table.{Formal};
+ghost use Rattle.rdlpp_define.specs.Macros.{Formal};
 ghost use Rattle.rdlpp_texts.specs.BoundCalls.{actuals_of, added, is_call_fault, ranges_tokens, Binds, IsBound, IsBoundCall, KeepsAll};
 ghost use Rattle.rdlpp_texts.specs.CallParts.{actuals_in, inner_size};
 

@@ -1,6 +1,6 @@
 // How an engine is made, and how its main text is opened.
 ghost use Rattle.std.specs.Prelude.{◌≡◌, OnErr};
-ghost use Rattle.rdlpp_table.specs.Define.{observed, set_of};
+ghost use Rattle.rdlpp_table.specs.Stored.{observed, set_of};
 ghost use Rattle.rdlpp_meaning.specs.Outcome.{report_of};
 ghost use Rattle.rdlpp_meaning.specs.Output.{name_cut, opening_fault};
 ghost use Rattle.rdlpp_state.specs.Held.{IsBounded};
@@ -13,7 +13,8 @@ use rdlpp_meaning::{Fault, FaultKind};
 use rdlpp_read::{Conditions, Files};
 use rdlpp_source::{Found, SourceFault, Sources};
 use rdlpp_state::{Marks, NewFault, Pending, Phase, copied_fault};
-use rdlpp_table::{DefineFault, Limits, Table};
+use rdlpp_define::DefineFault;
+use rdlpp_table::{Limits, Table};
 use rdlpp_usages::Expansion;
 use std::alloc::Global;
 

@@ -20,7 +20,8 @@ use rdlpp_meaning::FaultKind;
 use rdlpp_scan::Mode;
 use rdlpp_source::Sources;
 use rdlpp_state::Halt;
-use rdlpp_table::{MacroId, word_of};
+use rdlpp_define::word_of;
+use rdlpp_table::MacroId;
 use rdlpp_usages::Opening;
 
 impl<S: Sources> Engine<S> {

@@ -1,8 +1,8 @@
 -- The name isn't shorter than what was tried.
 use Rattle.std.proofs.Common.{length, ◌<◌, ◌≤◌}
 use Rattle.rdlpp_reports.specs.Definitions.{BeginsWith}
-use Rattle.rdlpp_table.specs.Table.{formal_bytes}
-use Rattle.rdlpp_table.specs.View.{AreSoundFormals, formal_at, formals_of, macro_at}
+use Rattle.rdlpp_define.specs.Macros.{formal_bytes, AreSoundFormals, formals_of}
+use Rattle.rdlpp_table.specs.View.{formal_at, macro_at}
 use Rattle.rdlpp_reports.proofs.definitions.formal_name.Given as goal
 
 abbrev pub invariant-loop-len : goal.invariant-loop-len

@@ -1,6 +1,6 @@
 use Rattle.std.proofs.Common.{◌≡◌, ◌∙◌, arith, refl, subst, ℕ}
 use Rattle.rdlpp_table.proofs.Arranged.{all_gathered, none_gathered, one_gathered, one_stays, AreGathered}
-use Rattle.rdlpp_table.proofs.Sizes.{count_items}
+use Rattle.rdlpp_define.proofs.Sizes.{count_items}
 use Rattle.rdlpp_table.proofs.index.gather.Goals as goal
 use Rattle.rdlpp_table.proofs.index.gather.Goals.{then-slack-gt0, else-slack-gt0}
 

@@ -1,6 +1,6 @@
 use Rattle.std.proofs.Common.{◌-◌, ◌∙◌, arith, refl}
 use Rattle.rdlpp_table.proofs.Arranged.{none_moved, one_moved}
-use Rattle.rdlpp_table.proofs.Sizes.{count_items}
+use Rattle.rdlpp_define.proofs.Sizes.{count_items}
 use Rattle.rdlpp_table.proofs.index.move_groups.Goals as goal
 
 pub loop-group-init : goal.loop-group-init

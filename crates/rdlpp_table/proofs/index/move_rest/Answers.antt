@@ -1,6 +1,6 @@
 use Rattle.std.proofs.Common.{◌≡◌, ◌∙◌, ◌+◌, ◌-◌, ap, arith, length, take}
 use Rattle.rdlpp_table.proofs.Arranged.{rest_moved}
-use Rattle.rdlpp_table.proofs.Sizes.{count_items}
+use Rattle.rdlpp_define.proofs.Sizes.{count_items}
 use Rattle.rdlpp_table.proofs.index.move_rest.Goals as goal
 
 pub returns-clause-front : goal.returns-clause-front

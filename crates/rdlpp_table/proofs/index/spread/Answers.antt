@@ -1,6 +1,6 @@
 use Rattle.std.proofs.Common.{arith}
 use Rattle.rdlpp_table.proofs.Arranged.{even_spaced, spread_offsets, spread_places}
-use Rattle.rdlpp_table.proofs.Sizes.{count_items}
+use Rattle.rdlpp_define.proofs.Sizes.{count_items}
 use Rattle.rdlpp_table.proofs.index.spread.Goals as goal
 
 pub returns-clause-places : goal.returns-clause-places

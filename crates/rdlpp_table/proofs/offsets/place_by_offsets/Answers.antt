@@ -1,6 +1,6 @@
 use Rattle.std.proofs.Common.{◌∙◌, List, ℕ, bytes_eq, drop, ap, sym, arith, refl, flat_map}
 use Rattle.std.proofs.lemmas.List.{take_rest}
-use Rattle.rdlpp_table.specs.Table.{formal_bytes}
+use Rattle.rdlpp_define.specs.Macros.{formal_bytes}
 use Rattle.rdlpp_table.specs.Store.{formal_read, formals_read}
 use Rattle.rdlpp_table.proofs.FormalOffsets.{bytes_from, count_offsets, offset_inside, passed_at, start_listed, reached_found, reached_none}
 use Rattle.rdlpp_table.proofs.offsets.place_by_offsets.Goals as goal

@@ -1,6 +1,6 @@
 use Rattle.std.proofs.Common.{drop, flat_map}
 use Rattle.rdlpp_table.specs.Store.{formals_read}
-use Rattle.rdlpp_table.specs.Table.{formal_bytes}
+use Rattle.rdlpp_define.specs.Macros.{formal_bytes}
 use Rattle.rdlpp_table.proofs.FormalOffsets.{IsReached}
 use Rattle.rdlpp_table.proofs.offsets.place_by_offsets.Given as goal
 

@@ -1,9 +1,10 @@
 use Rattle.std.proofs.Common.{◌≡◌, ◌∙◌, ◌++◌, List, ℕ, length, ap, sym, refl, arith, append-nil}
 use Rattle.rdlpp_table.specs.Store.{formals_read}
-use Rattle.rdlpp_table.specs.Table.{Formal}
+use Rattle.rdlpp_define.specs.Macros.{Formal}
 use Rattle.rdlpp_table.proofs.FormalOffsets.{marking_at, marking_count, marking_end, marking_more, marking_start, offsets_by, two_halves}
 use Rattle.rdlpp_table.proofs.RoundTrip.{count_read}
-use Rattle.rdlpp_table.proofs.Sizes.{count_items, length_start_halves}
+use Rattle.rdlpp_define.proofs.Sizes.{count_items}
+use Rattle.rdlpp_table.proofs.Sizes.{length_start_halves}
 use Rattle.rdlpp_table.proofs.offsets.push_offsets.Goals as goal
 
 pub returns-then-not-has_offsets-clause-items : goal.returns-then-not-has_offsets-clause-items

@@ -1,7 +1,7 @@
 use Rattle.std.proofs.Common.{◌-◌, ◌+◌, ◌∙◌, List, ℕ, false, drop, replicate, set, true, ap, sym, arith, refl, flat_map, length-set}
 use Rattle.std.proofs.lemmas.List.{take_rest}
 use Rattle.rdlpp_table.specs.Shapes.{shapes_of}
-use Rattle.rdlpp_table.specs.Table.{formal_bytes}
+use Rattle.rdlpp_define.specs.Macros.{formal_bytes}
 use Rattle.rdlpp_table.specs.Store.{formal_read, formals_read}
 use Rattle.rdlpp_table.proofs.FormalOffsets.{bytes_from, count_offsets, offset_inside, told_at, told_more, told_none, told_start}
 use Rattle.rdlpp_table.proofs.offsets.shapes.Goals as goal

@@ -2,7 +2,7 @@
 use Rattle.std.proofs.Common.{◌≡◌, ◌-◌, drop, false, length, replicate, flat_map}
 use Rattle.rdlpp_table.specs.Shapes.{shapes_of}
 use Rattle.rdlpp_table.specs.Store.{formals_read}
-use Rattle.rdlpp_table.specs.Table.{formal_bytes}
+use Rattle.rdlpp_define.specs.Macros.{formal_bytes}
 use Rattle.rdlpp_table.proofs.offsets.shapes.Given as goal
 
 abbrev pub invariant-loop-place : goal.invariant-loop-place

@@ -1,6 +1,6 @@
 use Rattle.std.proofs.Common.{List, ℕ, ◌-◌, ◌≡◌, ◌≤◌, drop}
 use Rattle.rdlpp_table.specs.PointCache.{cached_points, points_after}
-use Rattle.rdlpp_table.specs.Table.{Formal}
+use Rattle.rdlpp_define.specs.Macros.{Formal}
 use Rattle.rdlpp_table.proofs.point_cache.candidate_at.Given as goal
 
 abbrev pub invariant-loop-kept : goal.invariant-loop-kept

@@ -1,7 +1,8 @@
 use Rattle.std.proofs.Common.{◌<◌, ◌∙◌, refl, ℕ, List, ap, drop, length, arith}
 use Rattle.rdlpp_table.specs.IndexView.{IndexView}
 use Rattle.rdlpp_table.specs.Store.{macros_in}
-use Rattle.rdlpp_table.proofs.Sizes.{count_items, few_offsets, length_macros_in, live_read}
+use Rattle.rdlpp_define.proofs.Sizes.{count_items}
+use Rattle.rdlpp_table.proofs.Sizes.{few_offsets, length_macros_in, live_read}
 use Rattle.rdlpp_table.proofs.RoundTrip.{stored_length}
 use Rattle.rdlpp_table.proofs.Taken.{taken, taken_offsets, offsets_within}
 use Rattle.rdlpp_table.proofs.removal.remove_at.Goals as goal

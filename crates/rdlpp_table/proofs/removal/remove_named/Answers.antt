@@ -1,6 +1,6 @@
 use Rattle.std.proofs.Common.{◌∙◌, Some, ap, arith, sym}
 use Rattle.rdlpp_table.specs.IndexView.{IndexView}
-use Rattle.rdlpp_table.proofs.Sizes.{count_items}
+use Rattle.rdlpp_define.proofs.Sizes.{count_items}
 use Rattle.rdlpp_table.proofs.RoundTrip.{stored_without, stored_nowhere}
 use Rattle.rdlpp_table.proofs.Indexed.{entry_inside, found_gap, found_place, gap_without, left_nowhere, left_without, offsets_nowhere, offsets_without, place_in_bucket, sooner_more}
 use Rattle.rdlpp_table.proofs.Orders.{indexed_gap, indexed_place}

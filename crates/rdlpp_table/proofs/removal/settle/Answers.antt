@@ -1,7 +1,7 @@
 use Rattle.std.proofs.Common.{◌≤◌, length, arith}
 use Rattle.rdlpp_table.specs.Entries.{moved_down}
 use Rattle.rdlpp_table.proofs.Orders.{settled_list}
-use Rattle.rdlpp_table.proofs.Sizes.{count_items}
+use Rattle.rdlpp_define.proofs.Sizes.{count_items}
 use Rattle.rdlpp_table.proofs.Taken.{settled_stored, stored_after}
 use Rattle.rdlpp_table.proofs.removal.settle.Goals as goal
 

@@ -1,7 +1,7 @@
 use Rattle.std.proofs.Common.{arith}
 use Rattle.std.proofs.lemmas.Grind.{common_steps}
 use Rattle.rdlpp_table.proofs.Orders.{after_removed, tail_of, closed_list}
-use Rattle.rdlpp_table.proofs.Sizes.{count_items}
+use Rattle.rdlpp_define.proofs.Sizes.{count_items}
 use Rattle.rdlpp_table.proofs.removal.take_entry.Goals as goal
 
 pub draw_down-requires-clause-following : goal.draw_down-requires-clause-following

@@ -3,7 +3,8 @@ use Rattle.rdlpp_table.specs.declared.entry.Entry.{Entry}
 use Rattle.rdlpp_table.specs.Entries.{moved_down, AreAfter}
 use Rattle.rdlpp_table.specs.Store.{macros_in}
 use Rattle.rdlpp_table.proofs.Orders.{live_after, live_taken}
-use Rattle.rdlpp_table.proofs.Sizes.{count_items, length_macros_in, live_count}
+use Rattle.rdlpp_define.proofs.Sizes.{count_items}
+use Rattle.rdlpp_table.proofs.Sizes.{length_macros_in, live_count}
 use Rattle.rdlpp_table.proofs.Taken.{bytes_fit, covered_stored, taken_after, taken_live, taken_low, taken_range, taken_stored}
 use Rattle.rdlpp_table.proofs.removal.take_stored.Goals as goal
 

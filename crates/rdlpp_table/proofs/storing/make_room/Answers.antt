@@ -1,6 +1,7 @@
 use Rattle.std.proofs.Common.{◌≡◌, drop, ap, arith}
 use Rattle.rdlpp_table.specs.declared.given_up.GivenUp.{GivenUp}
-use Rattle.rdlpp_table.proofs.Sizes.{count_items, length_macros_in, live_count}
+use Rattle.rdlpp_define.proofs.Sizes.{count_items}
+use Rattle.rdlpp_table.proofs.Sizes.{length_macros_in, live_count}
 use Rattle.rdlpp_table.proofs.RoundTrip.{stored_count, stored_length}
 use Rattle.rdlpp_table.proofs.storing.make_room.Goals as goal
 

@@ -4,7 +4,8 @@ use Rattle.rdlpp_table.specs.View.{place_named}
 use Rattle.rdlpp_table.specs.Store.{macros_in}
 use Rattle.rdlpp_table.proofs.Indexed.{place_in_bucket}
 use Rattle.rdlpp_table.proofs.Orders.{indexed_gap, indexed_place}
-use Rattle.rdlpp_table.proofs.Sizes.{count_items, inside_by_place, length_macros_in, live_count, no_entry}
+use Rattle.rdlpp_define.proofs.Sizes.{count_items}
+use Rattle.rdlpp_table.proofs.Sizes.{inside_by_place, length_macros_in, live_count, no_entry}
 use Rattle.rdlpp_table.proofs.RoundTrip.{usage_without_size, usage_without_count, usage_without_none}
 use Rattle.rdlpp_table.proofs.storing.usage_without.Goals as goal
 

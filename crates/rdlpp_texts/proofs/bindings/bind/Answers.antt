@@ -1,5 +1,5 @@
 use Rattle.std.proofs.Common.{◌≡◌, ◌<◌, ◌∙◌, sym, arith, length, true, true≢false}
-use Rattle.rdlpp_table.proofs.Sizes.{count_items}
+use Rattle.rdlpp_define.proofs.Sizes.{count_items}
 use Rattle.rdlpp_texts.specs.BoundCalls.{IsBound, added}
 use Rattle.rdlpp_texts.proofs.Stacking.{taken-back}
 use Rattle.rdlpp_texts.proofs.BoundParts.{bound_to, within_wider}

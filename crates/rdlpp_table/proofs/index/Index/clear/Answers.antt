@@ -1,7 +1,7 @@
 use Rattle.std.proofs.Common.{◌-◌, ℕ, ap, arith}
 use Rattle.rdlpp_table.specs.IndexView.{places_room}
 use Rattle.rdlpp_table.proofs.Arranged.{nothing_arranged, nothing_in}
-use Rattle.rdlpp_table.proofs.Sizes.{count_items}
+use Rattle.rdlpp_define.proofs.Sizes.{count_items}
 use Rattle.rdlpp_table.proofs.index.Index.clear.Goals as goal
 
 pub invariant_of-self : goal.invariant_of-self

@@ -2,7 +2,7 @@ use Rattle.std.proofs.Common.{◌<◌, ◌≤◌, ◌-◌, ◌/◌, ◌+◌, ◌
 use Rattle.rdlpp_table.specs.IndexView.{IndexView, places_room}
 use Rattle.rdlpp_table.proofs.Arranged.{entered_arranged, enters, places_long, slack_arranged, some_slack}
 use Rattle.rdlpp_table.proofs.Groups.{mapped}
-use Rattle.rdlpp_table.proofs.Sizes.{count_items}
+use Rattle.rdlpp_define.proofs.Sizes.{count_items}
 use Rattle.rdlpp_table.proofs.index.Index.enter.Goals as goal
 
 pub move_down-requires : goal.move_down-requires

@@ -2,7 +2,7 @@ use Rattle.std.proofs.Common.{◌/◌, ◌+◌, ◌-◌, ◌∙◌, List, ℕ, a
 use Rattle.rdlpp_table.specs.IndexView.{IndexView, IsInBucket, places_room}
 use Rattle.rdlpp_table.proofs.Arranged.{bucket_inside, bucket_place, leaves, left_arranged, slack_arranged, slack_fits}
 use Rattle.rdlpp_table.proofs.Groups.{IsBehind, mapped}
-use Rattle.rdlpp_table.proofs.Sizes.{count_items}
+use Rattle.rdlpp_define.proofs.Sizes.{count_items}
 use Rattle.rdlpp_table.proofs.index.Index.leave.Goals as goal
 
 pub move_up-requires : goal.move_up-requires

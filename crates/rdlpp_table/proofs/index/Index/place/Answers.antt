@@ -2,7 +2,7 @@ use Rattle.std.proofs.Common.{◌+◌, ◌/◌, ◌∙◌, ap, arith, subst, sym
 use Rattle.std.proofs.lemmas.List.{get_or_default}
 use Rattle.rdlpp_table.specs.IndexView.{IndexView, IsInBucket}
 use Rattle.rdlpp_table.proofs.Arranged.{bucket_inside, bucket_place}
-use Rattle.rdlpp_table.proofs.Sizes.{count_items}
+use Rattle.rdlpp_define.proofs.Sizes.{count_items}
 use Rattle.rdlpp_table.proofs.index.Index.place.Goals as goal
 
 pub returns : goal.returns

@@ -5,7 +5,8 @@ use Rattle.rdlpp_table.specs.IndexView.{IndexView, places_room}
 use Rattle.rdlpp_table.specs.Store.{formals_read}
 use Rattle.rdlpp_table.proofs.Arranged.{arranged, same_places}
 use Rattle.rdlpp_table.proofs.RoundTrip.{count_read}
-use Rattle.rdlpp_table.proofs.Sizes.{count_items, two_offsets}
+use Rattle.rdlpp_define.proofs.Sizes.{count_items}
+use Rattle.rdlpp_table.proofs.Sizes.{two_offsets}
 use Rattle.rdlpp_table.proofs.index.Index.push_offsets.Goals as goal
 
 -- there is room for the offsets of formals where it was seen to it that there is for two each

@@ -1,5 +1,5 @@
 use Rattle.std.proofs.Common.{◌∙◌, ap}
-use Rattle.rdlpp_table.specs.Table.{Macro}
+use Rattle.rdlpp_define.specs.Macros.{Macro}
 use Rattle.rdlpp_table.proofs.table.Table.body.Goals as goal
 
 pub returns : goal.returns

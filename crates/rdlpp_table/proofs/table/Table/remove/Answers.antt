@@ -3,7 +3,7 @@ use Rattle.std.proofs.lemmas.Grind.{common_steps}
 use Rattle.rdlpp_table.specs.Table.{without}
 use Rattle.rdlpp_table.specs.View.{TableView}
 use Rattle.rdlpp_table.specs.Layout.{view_of}
-use Rattle.rdlpp_table.proofs.Sizes.{count_items}
+use Rattle.rdlpp_define.proofs.Sizes.{count_items}
 use Rattle.rdlpp_table.proofs.RoundTrip.{table_of, held_of, view_after, sound_without}
 use Rattle.rdlpp_table.proofs.Indexed.{few_entries, found_named, indexed_after, marked_after}
 use Rattle.rdlpp_table.proofs.table.Table.remove.Goals as goal

@@ -1,5 +1,5 @@
 use Rattle.std.proofs.Common.{◌∙◌}
-use Rattle.rdlpp_table.proofs.Sizes.{count_items}
+use Rattle.rdlpp_define.proofs.Sizes.{count_items}
 use Rattle.rdlpp_texts.proofs.Stacking.{bound-few, laid-bound}
 use Rattle.rdlpp_texts.proofs.cursors.Cursors.bound.Goals as goal
 

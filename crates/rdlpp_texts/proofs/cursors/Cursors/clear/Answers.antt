@@ -1,5 +1,5 @@
 use Rattle.std.proofs.Common.{arith, refl, sym}
-use Rattle.rdlpp_table.proofs.Sizes.{count_items}
+use Rattle.rdlpp_define.proofs.Sizes.{count_items}
 use Rattle.rdlpp_texts.proofs.Stacking.{none-open, stack-made, view-is}
 use Rattle.rdlpp_texts.proofs.cursors.Cursors.clear.Goals as goal
 

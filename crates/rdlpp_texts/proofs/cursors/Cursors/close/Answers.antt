@@ -1,6 +1,6 @@
 use Rattle.std.proofs.Common.{◌<◌, ◌+◌, List, ℕ, length, drop, ap, refl, ◌∙◌}
 use Rattle.rdlpp_texts.specs.declared.bindings.Range.{Range}
-use Rattle.rdlpp_table.proofs.Sizes.{count_items}
+use Rattle.rdlpp_define.proofs.Sizes.{count_items}
 use Rattle.rdlpp_texts.specs.Opened.{kept_by, opens_of}
 use Rattle.rdlpp_texts.proofs.Stacking.{closed-opens, first-inside, some-open, stack-closed, view-is}
 use Rattle.rdlpp_texts.proofs.cursors.Cursors.close.Goals as goal

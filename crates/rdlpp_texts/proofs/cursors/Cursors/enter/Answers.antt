@@ -1,6 +1,6 @@
 use Rattle.std.proofs.Common.{◌∙◌, ◌<◌, [], List, ℕ, ap, length, drop, refl, sym, arith, append-nil}
 use Rattle.rdlpp_meaning.specs.Opens.{Open}
-use Rattle.rdlpp_table.proofs.Sizes.{count_items}
+use Rattle.rdlpp_define.proofs.Sizes.{count_items}
 use Rattle.rdlpp_texts.specs.Opened.{opens_of}
 use Rattle.rdlpp_texts.specs.Scopes.{front_scope}
 use Rattle.rdlpp_texts.proofs.Stacking.{called-opens, first-inside, lent-body, lent-bounded, lent-opens, lent-some, room-first, some-open, stack-called, view-is}

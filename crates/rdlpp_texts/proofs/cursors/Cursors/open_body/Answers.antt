@@ -1,7 +1,7 @@
 use Rattle.std.proofs.Common.{◌≡◌, ap, ◌∙◌, arith, length, List, [], ◌∷◌, ℕ, take_all}
 use Rattle.rdlpp_scan.specs.declared.token.Mode.TheVariants.{Plain}
 use Rattle.rdlpp_meaning.specs.Opens.{Open, OpenBody, open_body}
-use Rattle.rdlpp_table.proofs.Sizes.{count_items}
+use Rattle.rdlpp_define.proofs.Sizes.{count_items}
 use Rattle.rdlpp_texts.specs.Opened.{CursorsView}
 use Rattle.rdlpp_texts.proofs.Passing.{sound-opened}
 use Rattle.rdlpp_texts.proofs.Stacking.{body-opens, lent-body, lent-bounded, stack-pushed, view-is}

@@ -1,0 +1,6 @@
+pub mod Sizes
+pub mod Words
+pub mod Defaults
+pub mod FormalLists
+pub mod Drafts
+pub mod Headers
