@@ -6,9 +6,9 @@ ghost use Rattle.rdlpp_state.specs.declared.phase.Phase.TheVariants as phase;
 ghost use Rattle.rdlpp.specs.Definitions.{AreGiven, refused_definition, with_macros};
 
 use arrayvec::ArrayString;
+use rdlpp_define::DefineFault;
 use rdlpp_expand::{Engine, Fault, Reading, RunFault, fault_kind};
 use rdlpp_source::Sources;
-use rdlpp_define::DefineFault;
 
 /// Defines macros in a fresh engine, in order.
 ///

@@ -47,6 +47,7 @@ mod usage;
 use arrayvec::ArrayString;
 use fronts::location_of;
 pub use looking::OpenSource;
+use rdlpp_define::word_of;
 use rdlpp_front::{Argument, SourceItem, next_item};
 use rdlpp_meaning::{Fault, FaultKind};
 use rdlpp_read::{Conditions, Files, Fill, LogicalLine};
@@ -56,7 +57,6 @@ use rdlpp_state::{
     Halt, Held, Marks, Pending, PendingPart, PendingPiece, Phase, Piece, PieceLocation, copied,
     copied_fault, fault_kind,
 };
-use rdlpp_define::word_of;
 use rdlpp_table::{Limits, Table};
 use rdlpp_texts::{CursorFault, TextPlace};
 use rdlpp_usages::Expansion;

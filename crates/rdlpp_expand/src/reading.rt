@@ -10,10 +10,10 @@ ghost use Rattle.rdlpp_state.specs.Searches.{Retries, StartsAgain, is_failed_sta
 ghost use Rattle.rdlpp_expand.specs.Reading.{Fills, FillsPart, GivesPiece, Leaves, Turns, unstarted};
 
 use crate::engine::{Engine, READ_ALLOWANCE};
+use rdlpp_define::DefineFault;
 use rdlpp_meaning::Fault;
 use rdlpp_source::Sources;
 use rdlpp_state::{Halt, Held, Phase, Piece, PieceLocation};
-use rdlpp_define::DefineFault;
 use std::marker::Model;
 
 /// How an output ended.

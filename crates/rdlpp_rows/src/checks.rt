@@ -1,6 +1,6 @@
 // What is checked of each row.
 use crate::asking::asks_as_wanted;
-use crate::devices::{Devices, SLOW, WHOLE};
+use crate::devices::{Devices, Failing, SLOW, WHOLE, with_calls};
 use crate::pieces::has_its_pieces;
 use crate::renewed::comes_to_the_same_behind;
 use crate::row::Row;
@@ -14,16 +14,6 @@ const SHORT: usize = 400;
 
 // The most calls of a device.
 const MOST_CALLS: u64 = 100_000;
-
-// What fails in a run.
-#[derive(Clone, Copy)]
-enum Failing {
-    Search,
-    Read,
-    Write,
-    EmptyWrite,
-    Flush,
-}
 
 /// What isn't as it has to be with a row, alone and behind the row before it; nothing where all is.
 pub fn failed_check(
@@ -178,7 +168,8 @@ fn agrees_cut(alloc: Global, job: &Job<'_>) -> Result<bool, AllocError> {
 }
 
 // Whether a row whose first, second and each further call of a kind fails, until none does, writes a part of its output
-// each time, never less than before, and ends in the fault of that kind; and comes to what it wants at last.
+// each time, never less than before, and ends in the fault of that kind; and comes to what it wants at last. Its first call fails
+// where the row must make one.
 fn fails_as_told(
     alloc: Global,
     job: &Job<'_>,
@@ -200,37 +191,20 @@ fn fails_as_told(
             return Ok(false);
         }
         if !is_told(failing, &ended) {
-            return Ok(ended.is_wanted(job.row));
+            return Ok(ended.is_wanted(job.row) && (calls > 0 || !must_fail(failing, job.row)));
         }
         least = least_after(failing, ended.output.len());
     }
     Ok(false)
 }
 
-// Devices of which so many calls of a kind go well.
-fn with_calls(failing: Failing, devices: Devices, calls: u64) -> Devices {
+// Whether a row makes a call of a kind whose failure is the fault of its run: each searches its main text; one without a fault reads
+// and flushes; and one with an output writes.
+fn must_fail(failing: Failing, row: &Row) -> bool {
     match failing {
-        Failing::Search => Devices {
-            searches: calls,
-            ..devices
-        },
-        Failing::Read => Devices {
-            reads: calls,
-            ..devices
-        },
-        Failing::Write => Devices {
-            writes: calls,
-            ..devices
-        },
-        Failing::EmptyWrite => Devices {
-            writes: calls,
-            takes_nothing: true,
-            ..devices
-        },
-        Failing::Flush => Devices {
-            flushes: calls,
-            ..devices
-        },
+        Failing::Search => true,
+        Failing::Read | Failing::Flush => row.fault.as_slice().is_empty(),
+        Failing::Write | Failing::EmptyWrite => !row.output.as_slice().is_empty(),
     }
 }
 

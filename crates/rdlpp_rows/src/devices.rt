@@ -37,6 +37,48 @@ pub const WHOLE: Devices = Devices {
 /// Devices that take one byte at a time, and never fail.
 pub const SLOW: Devices = Devices { step: 1, ..WHOLE };
 
+/// A kind of call that fails in a run.
+#[derive(Clone, Copy)]
+pub enum Failing {
+    /// A search for a source.
+    Search,
+    /// A read.
+    Read,
+    /// A write.
+    Write,
+    /// A write, which takes nothing.
+    EmptyWrite,
+    /// A flush.
+    Flush,
+}
+
+/// Devices of which so many calls of a kind go well.
+pub fn with_calls(failing: Failing, devices: Devices, calls: u64) -> Devices {
+    match failing {
+        Failing::Search => Devices {
+            searches: calls,
+            ..devices
+        },
+        Failing::Read => Devices {
+            reads: calls,
+            ..devices
+        },
+        Failing::Write => Devices {
+            writes: calls,
+            ..devices
+        },
+        Failing::EmptyWrite => Devices {
+            writes: calls,
+            takes_nothing: true,
+            ..devices
+        },
+        Failing::Flush => Devices {
+            flushes: calls,
+            ..devices
+        },
+    }
+}
+
 /// Texts in memory, by such devices.
 #[derive(Drop)]
 pub struct DealtTexts<'a> {

@@ -17,7 +17,7 @@
 //     memory                        the row is one of texts in memory: the scripts over files leave it out
 //
 // A word, a path and a text are spelled as `spelled` reads them.
-use crate::devices::{Devices, WHOLE};
+use crate::devices::{Devices, Failing, WHOLE, with_calls};
 use crate::spelling::{numbered, spelled};
 use std::alloc::{AllocError, AllocFailed, Global};
 
@@ -190,18 +190,9 @@ fn devices_of(text: &str) -> Result<Devices, RowFault> {
         return Err(RowFault::BadLine);
     };
     match kind {
-        "searches" => Ok(Devices {
-            searches: calls,
-            ..WHOLE
-        }),
-        "reads" => Ok(Devices {
-            reads: calls,
-            ..WHOLE
-        }),
-        "writes" => Ok(Devices {
-            writes: calls,
-            ..WHOLE
-        }),
+        "searches" => Ok(with_calls(Failing::Search, WHOLE, calls)),
+        "reads" => Ok(with_calls(Failing::Read, WHOLE, calls)),
+        "writes" => Ok(with_calls(Failing::Write, WHOLE, calls)),
         "endless" => Ok(Devices {
             endless: u8::try_from(calls).ok(),
             ..WHOLE

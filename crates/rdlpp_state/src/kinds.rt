@@ -2,8 +2,8 @@
 ghost use Rattle.std.specs.Prelude.{◌≡◌};
 ghost use Rattle.rdlpp_meaning.specs.Profile.{define_fault};
 
-use rdlpp_meaning::FaultKind;
 use rdlpp_define::DefineKind;
+use rdlpp_meaning::FaultKind;
 
 /// The kind of fault that a refused definition is: the one of the same name (this project's profile).
 #[tactic(auto, unfolding(rdlpp_meaning::specs::Profile::define_fault))]

@@ -9,11 +9,11 @@ ghost use Rattle.rdlpp_state.specs.Opening.{Makes, Starts, opened_engine, start_
 
 use super::Engine;
 use arrayvec::ArrayString;
+use rdlpp_define::DefineFault;
 use rdlpp_meaning::{Fault, FaultKind};
 use rdlpp_read::{Conditions, Files};
 use rdlpp_source::{Found, SourceFault, Sources};
 use rdlpp_state::{Marks, NewFault, Pending, Phase, copied_fault};
-use rdlpp_define::DefineFault;
 use rdlpp_table::{Limits, Table};
 use rdlpp_usages::Expansion;
 use std::alloc::Global;

@@ -16,11 +16,11 @@ ghost use Rattle.rdlpp_state.specs.Steps.{UncutStep};
 
 use super::Engine;
 use arrayvec::ArrayString;
+use rdlpp_define::word_of;
 use rdlpp_meaning::FaultKind;
 use rdlpp_scan::Mode;
 use rdlpp_source::Sources;
 use rdlpp_state::Halt;
-use rdlpp_define::word_of;
 use rdlpp_table::MacroId;
 use rdlpp_usages::Opening;
 
