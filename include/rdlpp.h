@@ -290,8 +290,9 @@ rdlpp_outcome rdlpp_read(
 
 /*
  * Tells a handle the text of the source at `path`, which is copied; the parts that rdlpp_give_part gave before stand in
- * front of it. A path that wasn't asked for is kept for later. The first that is told of a path counts, also one of `texts`: a later one changes nothing. Of
- * a handle that doesn't ask everything is told from the start.
+ * front of it. A path that wasn't asked for is kept for later. The first that is told of a path counts, also one of
+ * `texts`: a later one changes nothing. To a handle whose request doesn't have `asks` no source can be added: the answer is
+ * RDLPP_WHOLE all the same, and nothing changes.
  *
  * The answer is RDLPP_WHOLE; RDLPP_BAD_TEXT where `path` isn't UTF-8, RDLPP_NO_MEMORY where memory was
  * refused, and RDLPP_CLOSED where the handle is closed: with these nothing changed, but that no part is left.
@@ -389,7 +390,8 @@ size_t rdlpp_definitions(rdlpp_handle *handle, char *out, size_t out_length);
 /*
  * Writes the notes of the fault that the last read told to `out`, in lines that end in LF, and answers their
  * whole length, which is 0 where the last read told none, of a closed handle, and where memory was refused.
- * They are those of the program's --notes, but for the line that says where a macro was defined.
+ * They are those of the program's --notes, without the line that says where a macro was defined and without the system's
+ * reason of a file that failed. Where rdlpp_give_once answered RDLPP_CHANGED, a note says that the text has changed.
  */
 size_t rdlpp_notes(rdlpp_handle *handle, char *out, size_t out_length);
 

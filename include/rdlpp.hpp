@@ -232,7 +232,8 @@ public:
 
     /*
      * Reads the next bytes of the output to `to`, as many as `length` at most, and answers how many. 0 is answered at the
-     * end alone, where is_done holds, or where `length` is 0. Where `pieces` was asked for, all of them stand at one place.
+     * end alone, where is_done holds, or where `length` is 0; until then it reads on, however long that takes. Where `pieces` was
+     * asked for, all of them stand at one place.
      *
      * What the reader of sources throws is thrown on, but for `unreadable`; the stream is as before then.
      */
