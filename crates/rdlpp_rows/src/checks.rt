@@ -191,7 +191,7 @@ fn fails_as_told(
             return Ok(false);
         }
         if !is_told(failing, &ended) {
-            return Ok(ended.is_wanted(job.row) && (calls > 0 || !must_fail(failing, job.row)));
+            return Ok(ended.is_wanted(job.row) && (calls > 0 || !must_call(failing, job.row)));
         }
         least = least_after(failing, ended.output.len());
     }
@@ -200,7 +200,7 @@ fn fails_as_told(
 
 // Whether a row makes a call of a kind whose failure is the fault of its run: each searches its main text; one without a fault reads
 // and flushes; and one with an output writes.
-fn must_fail(failing: Failing, row: &Row) -> bool {
+fn must_call(failing: Failing, row: &Row) -> bool {
     match failing {
         Failing::Search => true,
         Failing::Read | Failing::Flush => row.fault.as_slice().is_empty(),

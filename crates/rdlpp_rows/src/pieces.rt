@@ -43,17 +43,29 @@ impl<'a> Left<'a> {
 /// Whether the pieces of a row are its output, each of them one write of a run, and then its end, which stays; and whether what is
 /// held is within the limits behind each piece, and at the end what the row wants.
 pub fn has_its_pieces(alloc: Global, job: &Job<'_>) -> Result<bool, AllocError> {
-    let (Some(mut engine), Some(ran)) = (engine_of(alloc, job, WHOLE)?, run_row(alloc, job, WHOLE)?)
-    else {
+    let Some(ran) = run_row(alloc, job, WHOLE)? else {
         return Ok(true);
     };
+    match engine_of(alloc, job, WHOLE)? {
+        Some(mut engine) => lends_its_pieces(alloc, &mut engine, job, ran.lens.as_slice()),
+        None => Ok(true),
+    }
+}
+
+// The same of an engine before its start, by how many bytes each write of a run takes.
+fn lends_its_pieces(
+    alloc: Global,
+    engine: &mut Engine<DealtTexts<'_>>,
+    job: &Job<'_>,
+    lens: &[usize],
+) -> Result<bool, AllocError> {
     if !engine.is_fresh() {
         return Ok(false);
     }
     let _opened = engine.start(job.invocation.source.as_str());
     let mut left = Left {
         output: job.row.output.as_slice(),
-        lens: ran.lens.as_slice(),
+        lens,
     };
     let mut met = 0_usize;
     for _ in 0..MOST_PIECES {
@@ -86,8 +98,8 @@ pub fn has_its_pieces(alloc: Global, job: &Job<'_>) -> Result<bool, AllocError> 
                 left.is_empty()
                     && met == job.row.pieces.len()
                     && line.as_slice() == job.row.fault.as_slice()
-                    && holds_what_it_wants(&engine, job)
-                    && keeps_end(alloc, &mut engine, line.as_slice())?,
+                    && holds_what_it_wants(engine, job)
+                    && keeps_end(alloc, engine, line.as_slice())?,
             );
         }
     }
