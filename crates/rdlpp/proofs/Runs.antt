@@ -3,11 +3,11 @@ use Rattle.std.proofs.Common.{◌≡◌, ℕ, ◌+◌, ◌<◌, ◌≤◌, lengt
 use Rattle.std.specs.Io.KnownBytes.{Appends}
 use Rattle.std.specs.List.{concat}
 use Rattle.std.proofs.lemmas.List.{drop_all, drop_more}
-use Rattle.rdlpp_table.specs.Stored.{Accepted, Defined, DefinedFault, observed, set_of}
+use Rattle.rdlpp_define.specs.Defined.{Accepted, Defined, DefinedFault, observed, set_of}
 use Rattle.rdlpp_define.specs.Macros.{Macro}
 use Rattle.rdlpp_define.specs.declared.fault.DefineFault.{DefineFault}
-use Rattle.rdlpp_table.specs.declared.limits.LimitFault.{LimitFault}
-use Rattle.rdlpp_table.specs.declared.limits.Limits.{Limits}
+use Rattle.rdlpp_define.specs.declared.limits.LimitFault.{LimitFault}
+use Rattle.rdlpp_define.specs.declared.limits.Limits.{Limits}
 use Rattle.rdlpp_meaning.specs.FaultNumbers.{fault_number}
 use Rattle.rdlpp_meaning.specs.Outcome.{Outcome, Report, and_then, fails, gives, report_of}
 use Rattle.rdlpp_meaning.specs.declared.fault.Fault.{Fault}

@@ -4,7 +4,7 @@ use Rattle.std.specs.Prelude.{◌≡◌, ℕ, ◌+◌, List, [], ◌∷◌, Stri
 use Rattle.std.specs.String.{string_bytes}
 use Rattle.std.specs.declared.alloc.Global.{Global}
 use Rattle.rdlpp_define.specs.Macros.{Macro}
-use Rattle.rdlpp_table.specs.Stored.{Accepted, DefinedFault, set_of}
+use Rattle.rdlpp_define.specs.Defined.{Accepted, DefinedFault, set_of}
 use Rattle.rdlpp_define.specs.declared.fault.DefineKind.{DefineKind}
 use Rattle.rdlpp_meaning.specs.Outcome.{Report, report_of}
 use Rattle.rdlpp_state.specs.Engine.{EngineView}

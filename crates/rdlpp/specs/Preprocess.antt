@@ -5,8 +5,8 @@ use Rattle.std.specs.Io.KnownBytes.{Appends}
 use Rattle.rdlpp_source.specs.declared.sources.Sources.{Ghosts}
 use Rattle.rdlpp_source.specs.declared.sinks.Sink.{Ghosts as SinkGhosts}
 use Rattle.rdlpp_define.specs.Macros.{Macro}
-use Rattle.rdlpp_table.specs.Limits.{limit_fault}
-use Rattle.rdlpp_table.specs.declared.limits.Limits.{Limits}
+use Rattle.rdlpp_define.specs.Limits.{limit_fault}
+use Rattle.rdlpp_define.specs.declared.limits.Limits.{Limits}
 use Rattle.rdlpp_meaning.specs.Outcome.{Report, report_of, Outcome, fails}
 use Rattle.rdlpp_meaning.specs.OutputLimit.{limited_output}
 use Rattle.rdlpp_state.specs.Engine.{EngineView}

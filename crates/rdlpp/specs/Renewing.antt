@@ -1,7 +1,7 @@
 -- An engine that is renewed for one main text after another.
 -- A definition that names no source is this project's own.
 use Rattle.std.specs.Prelude.{◌≡◌, Option, None, Some, ⊤}
-use Rattle.rdlpp_table.specs.Limits.{limit_fault}
+use Rattle.rdlpp_define.specs.Limits.{limit_fault}
 use Rattle.rdlpp_state.specs.Engine.{EngineView}
 use Rattle.rdlpp.specs.declared.options.Options.{Options}
 

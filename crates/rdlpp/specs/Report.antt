@@ -2,8 +2,8 @@
 -- A definition that names no source is this project's own.
 use Rattle.std.specs.Prelude.{ℕ, List, [], ◌∷◌, ◌++◌, codes, decimal, Option, Result}
 use Rattle.std.specs.List.{concat}
-use Rattle.rdlpp_table.specs.declared.limits.LimitFault.{LimitFault}
-use Rattle.rdlpp_table.specs.declared.limits.LimitFault.TheVariants.{Depth, Includes, LineBytes, SourceBytes, ArgumentBytes, DefinitionBytes, Definitions, Conditions, OutputBytes}
+use Rattle.rdlpp_define.specs.declared.limits.LimitFault.{LimitFault}
+use Rattle.rdlpp_define.specs.declared.limits.LimitFault.TheVariants.{Depth, Includes, LineBytes, SourceBytes, ArgumentBytes, DefinitionBytes, Definitions, Conditions, OutputBytes}
 use Rattle.rdlpp_meaning.specs.declared.fault.Fault.{Fault}
 use Rattle.rdlpp_meaning.specs.FaultNumbers.{fault_number}
 use Rattle.rdlpp_reports.specs.Writes.{Writes}

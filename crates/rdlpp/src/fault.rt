@@ -1,6 +1,6 @@
 // Why a text wasn't preprocessed to its end.
+use rdlpp_define::LimitFault;
 use rdlpp_expand::{NewFault, RunFault};
-use rdlpp_table::LimitFault;
 
 /// Why a text wasn't preprocessed to its end (this project's profile).
 #[derive(Debug, Drop)]

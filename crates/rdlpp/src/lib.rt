@@ -19,6 +19,7 @@ pub use folders::{FileFailure, FolderReader, Folders};
 pub use opening::{open_reading, reopen_reading};
 pub use options::Options;
 pub use preprocessing::preprocess;
+pub use rdlpp_define::{DefineFault, DefineKind, LimitFault, Limits};
 pub use rdlpp_expand::{
     Engine, Fault, FaultKind, OpenSource, Placed, Position, ReadEnd, ReadPart, Reading, RunFault,
     Watcher,
@@ -28,7 +29,7 @@ pub use rdlpp_reports::{
     write_definitions, write_dependencies, write_failure, write_notes,
 };
 pub use rdlpp_source::{Buffered, Counted, Found, Sink, SinkFault, SourceFault, Sources, Texts};
-pub use rdlpp_table::{LimitFault, Limits, NoMemory, Table};
+pub use rdlpp_table::{NoMemory, Table};
 pub use renewing::Preprocessor;
 pub use reporting::{limit_name, report};
 pub use running::{new_engine, run_watched_from};

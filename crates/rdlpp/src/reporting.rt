@@ -6,9 +6,9 @@ ghost use Rattle.rdlpp.specs.Report.{Reports, limit_name, fault_line, line_end};
 use crate::PrepFault;
 use arrayvec::ArrayString;
 use itoa::Buffer;
+use rdlpp_define::LimitFault;
 use rdlpp_expand::Fault;
 use rdlpp_reports::{write_parts, write_whole};
-use rdlpp_table::LimitFault;
 use std::fmt::Write as _;
 use std::io::{self, Write};
 

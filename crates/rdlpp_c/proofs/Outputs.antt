@@ -1,8 +1,8 @@
 -- The output that a call asks for, read to its end.
 use Rattle.std.proofs.Common.{◌≡◌, ℕ, ◌+◌, ◌-◌, ◌^◌, ◌<◌, ◌≤◌, ◌||◌, min, Bool, true, false, List, [], ◌∷◌, ◌++◌, length, take, drop, Option, None, Some, refl, sym, ap, subst, ◌∙◌, append-nil, length-append, arith, map, Ok, Err, Result, string_bytes, drop_of_length-le, length-take-le, take-append-drop, take_all}
 use Rattle.std.proofs.Math.Seq.{take-append_seam}
-use Rattle.rdlpp_table.specs.Limits.{limit_fault}
-use Rattle.rdlpp_table.specs.declared.limits.Limits.{Limits}
+use Rattle.rdlpp_define.specs.Limits.{limit_fault}
+use Rattle.rdlpp_define.specs.declared.limits.Limits.{Limits}
 use Rattle.rdlpp_meaning.specs.Outcome.{Outcome, Report, and_then, fails, gives, report_of}
 use Rattle.rdlpp_meaning.proofs.Outcomes.{and_then-gives_gives, bytes-and_then_gives}
 use Rattle.rdlpp_source.specs.Counts.{Counts}

@@ -4,7 +4,7 @@ use Rattle.std.specs.Prelude.{⊤}
 use Rattle.std.proofs.lemmas.Bool.Decides.{nat_tests}
 use Rattle.std.proofs.lemmas.Option.{none-some, same_Some, slice_get-get_or, slice_get_past}
 use borrow.Rule.Slice.PartMut.{mid_of, put_mid}
-use Rattle.rdlpp_table.specs.declared.limits.Limits.{Limits}
+use Rattle.rdlpp_define.specs.declared.limits.Limits.{Limits}
 use Rattle.rdlpp_meaning.specs.FaultNumbers.{fault_number}
 use Rattle.rdlpp_meaning.specs.Outcome.{Report, and_then, gives}
 use Rattle.rdlpp_meaning.specs.declared.fault.FaultKind.{FaultKind}

@@ -1,6 +1,6 @@
 -- What is opened in the place of another output is what a call asks for.
 use Rattle.std.proofs.Common.{◌≡◌, ◌∙◌, ℕ, List, IfOk, IfSome, Option, Result, Ok, Err, ap, refl, subst, sym, string_bytes}
-use Rattle.rdlpp_table.specs.Limits.{limit_fault}
+use Rattle.rdlpp_define.specs.Limits.{limit_fault}
 use Rattle.rdlpp_source.specs.declared.asked.AskedTexts.{AskedTexts}
 use Rattle.rdlpp_expand.specs.Reading.{ReadingView}
 use Rattle.rdlpp_expand.specs.declared.writing.RunFault.{RunFault}

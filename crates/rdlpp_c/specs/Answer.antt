@@ -5,7 +5,7 @@ use Rattle.rdlpp_source.specs.declared.sources.Sources.{Ghosts}
 use Rattle.rdlpp_source.specs.declared.texts.Texts.{Texts}
 use Rattle.rdlpp_source.specs.declared.texts.TextReader.{TextReader}
 use Rattle.rdlpp_source.specs.Texts.{texts_catalog, left_of}
-use Rattle.rdlpp_table.specs.Limits.{limit_fault}
+use Rattle.rdlpp_define.specs.Limits.{limit_fault}
 use Rattle.rdlpp_meaning.specs.Outcome.{report_of, Outcome}
 use Rattle.rdlpp.specs.Preprocess.{output_of}
 use Rattle.rdlpp.specs.declared.options.Options.{Options}

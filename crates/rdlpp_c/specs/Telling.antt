@@ -1,8 +1,8 @@
 -- How an answer is told in numbers and buffers.
 -- A definition that names no source is this project's own.
 use Rattle.std.specs.Prelude.{◌≡◌, ℕ, List, [], length}
-use Rattle.rdlpp_table.specs.declared.limits.LimitFault.{LimitFault}
-use Rattle.rdlpp_table.specs.declared.limits.LimitFault.TheVariants.{Depth, Includes, LineBytes, SourceBytes, ArgumentBytes, DefinitionBytes, Definitions, Conditions, OutputBytes}
+use Rattle.rdlpp_define.specs.declared.limits.LimitFault.{LimitFault}
+use Rattle.rdlpp_define.specs.declared.limits.LimitFault.TheVariants.{Depth, Includes, LineBytes, SourceBytes, ArgumentBytes, DefinitionBytes, Definitions, Conditions, OutputBytes}
 use Rattle.rdlpp_meaning.specs.FaultNumbers.{fault_number}
 use Rattle.rdlpp_c.specs.Buffers.{overwritten}
 use Rattle.rdlpp_c.specs.Request.{Asked}

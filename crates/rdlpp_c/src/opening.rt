@@ -2,7 +2,7 @@
 ghost use Rattle.std.specs.Prelude.{◌≡◌, Err, IfOk, IsUtf8, None, OnOk, map, MatchResult};
 ghost use Rattle.std.specs.List.{All};
 ghost use Rattle.std.specs.String.{string_bytes};
-ghost use Rattle.rdlpp_table.specs.Limits.{limit_fault};
+ghost use Rattle.rdlpp_define.specs.Limits.{limit_fault};
 ghost use Rattle.rdlpp_c.specs.Request.{AreUtf8, requested};
 ghost use Rattle.rdlpp_c.specs.Reopening.{IsUnread, reopened};
 ghost use Rattle.rdlpp_c.specs.Streaming.{AreOwned, OpensOwned, OpensStream, boxed_answer, refused_answer};

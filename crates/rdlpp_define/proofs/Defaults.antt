@@ -26,7 +26,9 @@ use Rattle.rdlpp_define.specs.Macros.{Formal, Macro, default_size}
 use Rattle.rdlpp_define.specs.Formals.{default_after, IsDefault, default_left}
 use Rattle.rdlpp_define.specs.Define.{DefaultText, Drawn, DraftFault, default_in, default_of_tokens, is_space, lexical, onto_default, onto_trimmed, trimmed, trimmed_default, trimmed_of, with_body, without_end, text_without_line_comments}
 
--- Default texts as they are read back from a table's bytes: the levels of their tokens, without `//` comments and without spaces at
+-- Default texts as they are read back from a table's bytes: the levels of their tokens, without `//` comments and without spaces
+-- at their ends.
+
 -- a text that is read whole
 none_is : (o : Option LexFault) → is_none o ≡ true → o ≡ None
 none_is None h = refl
@@ -48,7 +50,7 @@ text_clean : (text : List ℕ) → IsCleanText text → is_clean text ≡ true
 unfolding is_clean
 text_clean text c = and_from _ _ (ap is_none c.faultless) (each_kept _ c.uncommented)
 
-pub default_from : (text : List ℕ) → IsCleanText text → fills 0 (tokens_from Plain 0 text) text ≡ true → is_default text ≡ true
+default_from : (text : List ℕ) → IsCleanText text → fills 0 (tokens_from Plain 0 text) text ≡ true → is_default text ≡ true
 unfolding is_default
 default_from text c h = and_from _ _ (text_clean text c) h
 
@@ -129,7 +131,7 @@ taken_fill (t ∷ ts) l n text some le =
     grind (arith, drop-take, first_of, (taken_fill ts (level_after t.kind l) (n - t.len) (drop t.len text) some.1 (omega arith)))
 
 -- the spaces at the end go
-pub before_spaces_fill : (class : ℕ → Bool) → AreSpaces class → (l : ℕ) (text : List ℕ) (n : ℕ) → IsCleanTo class text n → fills_text l text ≡ true → fills_text l (take n text) ≡ true
+before_spaces_fill : (class : ℕ → Bool) → AreSpaces class → (l : ℕ) (text : List ℕ) (n : ℕ) → IsCleanTo class text n → fills_text l text ≡ true → fills_text l (take n text) ≡ true
 before_spaces_fill class are l text n c h =
     let own : tokens_from Plain 0 (take n text) ≡ c.front = ap (λ i. tokens_from Plain 0 (take i text)) c.len ∙ tokens_from-front c.front c.back Plain text c.is in
     let C : List Token → Type 0 = λ ts. AllByRecursion IsCleanToken ts in
@@ -164,7 +166,7 @@ others_fill (t ∷ ts) l text =
     grind (arith, comment_inert, and_right, (others_fill ts l (drop t.len text)), (others_fill ts (level_after t.kind l) (drop t.len text)))
 
 -- tokens fill a level up as what is left of them without `//` comments does
-pub left_fill : (ts : List Token) (l : ℕ) (text left : List ℕ) → AllByRecursion (λ t. 0 < t.len) ts → tokens_from Plain 0 left ≡ other_tokens ts
+left_fill : (ts : List Token) (l : ℕ) (text left : List ℕ) → AllByRecursion (λ t. 0 < t.len) ts → tokens_from Plain 0 left ≡ other_tokens ts
     → token_texts (other_tokens ts) left ≡ other_texts ts text → fills_text l left ≡ fills l ts text
 left_fill ts l text left some tokens texts = grind (arith, by_texts, tokens-some, others_fill)
 
@@ -336,7 +338,7 @@ trimmed_by text (Some raw) d is e =
     (subst IsCleanText same t.clean, subst (λ (x : List ℕ). is_default x ≡ true) same (default_from (trimmed_of is_space raw.text) t.clean (t.filled c.1)))
 
 -- a default text that is read is read back
-pub default_after_plain : (text : List ℕ) (d : DefaultText) → default_after text ≡ Some d → is_default d.text ≡ true
+default_after_plain : (text : List ℕ) (d : DefaultText) → default_after text ≡ Some d → is_default d.text ≡ true
 unfolding default_after
 default_after_plain text d e = (trimmed_by text (default_of_tokens 0 (tokens_from Plain 0 text) text) d refl e).1
 
@@ -418,7 +420,7 @@ found_by (b ∷ bs) m zero level =
     ∙ ap (λ (x : List ℕ). found (onto (kept_bytes t (b ∷ bs)) (read_by (Some next) t.next_mode ts x))) (sym at))) in
     grind (arith, first_step, one_default, found_cond)
 
-pub default_is : (text : List ℕ) → default_after text ≡ option_map trimmed_default (found (cleared (Some 0) text))
+default_is : (text : List ℕ) → default_after text ≡ option_map trimmed_default (found (cleared (Some 0) text))
 unfolding default_after cleared left_in
 default_is text = ap (option_map trimmed_default) (found_by text Plain 0 0)
 
@@ -458,7 +460,7 @@ size_is [] = refl
 size_is (b ∷ bs) = sym (cond-false _ _ _ (ne_eqb (length (b ∷ bs)) 0 (λ e. absurd (omega arith))))
 
 -- a default text that was read is read back
-pub default_plain : (text : List ℕ) (b : ℕ) (bs : List ℕ) → text_after (cleared (start_level true) text) ≡ b ∷ bs → is_default (default_left text) ≡ true
+default_plain : (text : List ℕ) (b : ℕ) (bs : List ℕ) → text_after (cleared (start_level true) text) ≡ b ∷ bs → is_default (default_left text) ≡ true
 unfolding start_level default_left
 default_plain text b bs e =
     let c : Cleared = cleared (Some 0) text in

@@ -21,7 +21,7 @@ use Rattle.rdlpp_define.specs.declared.fault.DefineFault.{DefineFault}
 use Rattle.rdlpp_define.specs.Macros.{Formal, Macro, formal_bytes, list_size, AreSoundFormals, IsSoundMacro}
 use Rattle.rdlpp_define.specs.Plain.{is_plain_macro}
 use Rattle.rdlpp_scan.specs.Continuations.{as_read}
-use Rattle.rdlpp_scan.specs.KeptText.{Cleared, Sound, Unsound, onto, trimmed_left, trimmed_len, trims, cleared, told, read_by, left_in, kept_bytes, start_level}
+use Rattle.rdlpp_scan.specs.KeptText.{Cleared, Sound, Unsound, onto, trimmed_left, trimmed_len, trims, cleared, told, read_by, left_in, kept_bytes}
 use Rattle.rdlpp_define.specs.Define.{drafted, Draft, Drawn, DraftFault, lexical, macro_set, name_fault, refused_word, trimmed, with_body, without_list, text_without_line_comments, FormalFault, DefaultText, Good, Listed, FormalListFault, after_name, default_in, formal_fault, formal_in, formal_name, formals_in, formals_of_list, is_nothing, with_default}
 use Rattle.rdlpp_define.specs.NewMacro.{list_formals, new_macro, IsList, IsNew}
 use Rattle.rdlpp_scan.specs.CleanTexts.{IsCleanText}
@@ -75,7 +75,7 @@ body_read mode (t ∷ ts) text =
           ∙ sym (ap (λ (f : Option LexFault). told f (text_without_line_comments (t ∷ ts) text)) (cond-false _ _ _ e)))))
     ]
 
-pub same_left : (text : List ℕ) → told (lex_fault_from Plain text) (text_without_line_comments (tokens_from Plain 0 text) text) ≡ cleared None text
+same_left : (text : List ℕ) → told (lex_fault_from Plain text) (text_without_line_comments (tokens_from Plain 0 text) text) ≡ cleared None text
 unfolding lex_fault_from cleared left_in
 same_left text = sym (body_read Plain (tokens_from Plain 0 text) text)
 
@@ -95,7 +95,7 @@ rejected_by name formals (Sound rest last) fault e = absurd (cc)
 rejected_by name formals (Unsound other) fault e = let same : other ≡ fault = cc in ap (λ (f : LexFault). DraftFault (lexical f) []) same
 
 -- a body without a fault gives the macro
-pub body_drawn : (name : List ℕ) (formals : Option (List Formal)) (text : List ℕ) (len : ℕ) → Ok len ≡ trimmed_len (trims false) (cleared None text) → with_body name formals text ≡ Drawn (record { name = name; formals = formals; body = trimmed_left (trims false) (cleared None text) })
+body_drawn : (name : List ℕ) (formals : Option (List Formal)) (text : List ℕ) (len : ℕ) → Ok len ≡ trimmed_len (trims false) (cleared None text) → with_body name formals text ≡ Drawn (record { name = name; formals = formals; body = trimmed_left (trims false) (cleared None text) })
 body_drawn name formals text len e = body_draft name formals text ∙ drawn_by name formals (cleared None text) len e
 
 pub body_reads : (name : List ℕ) (formals : Option (List Formal)) (text : List ℕ) (len : ℕ) → Ok len ≡ trimmed_len (trims false) (cleared None text) → drafted (Ok (record { name = name; formals = formals; body = trimmed_left (trims false) (cleared None text) })) ≡ with_body name formals text
@@ -194,14 +194,14 @@ faultless : (c : Bool) (k : DefineKind) (y : Option DefineKind) → cond c (Some
 faultless true k y e = absurd (cc)
 faultless false k y e = (refl, e)
 
-pub good_name : (name : List ℕ) → name_fault name ≡ None → IsGoodName name
+sound_name : (name : List ℕ) → name_fault name ≡ None → IsGoodName name
 unfolding name_fault
-good_name name e = grind (arith, faultless, eqb-false, ltb-false)
+sound_name name e = grind (arith, faultless, eqb-false, ltb-false)
 
 pub new_sound : (name : List ℕ) (arity : Option ℕ) (list : List ℕ) (is_logical : Bool) (text : List ℕ) (len : ℕ) → name_fault name ≡ None → AreSoundFormals (unwrap_or (list_formals arity list) [])
     → Ok len ≡ trimmed_len (trims false) (cleared None (as_read is_logical text)) → IsSoundMacro (new_macro name arity list is_logical text)
 new_sound name arity list is_logical text len e s read =
-    let g = good_name name e in
+    let g = sound_name name e in
     record {
       named = g.named;
       short = g.short;
@@ -219,11 +219,7 @@ pub listed_sound : (text : List ℕ) (o : Option (List Formal)) (after : List �
 listed_sound text None after e = no_formals_sound
 listed_sound text (Some fs) after e = by_list text fs after e
 
--- A macro that is to be stored, in the lists of a table.
-
--- what is left of a body's text
-abbrev pub body_of_text : Bool → List ℕ → List ℕ
-body_of_text is_logical text = trimmed_left (trims false) (cleared None (as_read is_logical text))
+-- The formals of a macro as the text of their list.
 
 -- a list without formals
 no_length : (o : Option (List Formal)) → unwrap_or (option_map length o) 0 ≡ 0 → unwrap_or o [] ≡ []
@@ -253,11 +249,6 @@ has_formals None list size l h = absurd (omega arith)
 has_formals (Some n) list size l h =
     let e : formals_of_list (as_read true list) ≡ formals_in 255 [] (as_read true list) = listed_count (as_read true list) n l.arity_is h in
     grind (arith, by_length)
-
--- what is appended of a body's text is what is left of it
-pub body_is : (is_logical : Bool) (text : List ℕ) → trimmed_left (trims false) (cleared (start_level false) (as_read is_logical text)) ≡ body_of_text is_logical text
-unfolding start_level
-body_is is_logical text = refl
 
 -- a list that was read
 pub list_is : (list following : List ℕ) (count size : ℕ) → (formals : List Formal) × IsRead (formals_of_list (as_read true list)) following count size formals → (IsList (Some count) list size) × (formals_of_list (as_read true list) ≡ Listed (list_formals (Some count) list) following)

@@ -127,12 +127,12 @@ none_by : (name : List ℕ) → with_default name None ≡ FormalFault kind.BadF
 unfolding with_default
 none_by name = refl
 
-pub good_at : (before : List Formal) (text name tail from following : List ℕ) (size : ℕ) → IsPart text name tail → formal_fault before name ≡ None → IsDefault (default_in tail) from following size → formal_in before text ≡ Good (formal_with name from) following
+good_at : (before : List Formal) (text name tail from following : List ℕ) (size : ℕ) → IsPart text name tail → formal_fault before name ≡ None → IsDefault (default_in tail) from following size → formal_in before text ≡ Good (formal_with name from) following
 good_at before text name tail from following size p e d =
     part_by before text name tail p
     ∙ (ap (λ (o : Option DefineKind). formal_by o name (default_in tail)) e ∙ good_by name from following size (default_in tail) d)
 
-pub bad_at : (before : List Formal) (text name tail : List ℕ) → IsPart text name tail → formal_fault before name ≡ None → default_in tail ≡ None → formal_in before text ≡ FormalFault kind.BadFormals
+bad_at : (before : List Formal) (text name tail : List ℕ) → IsPart text name tail → formal_fault before name ≡ None → default_in tail ≡ None → formal_in before text ≡ FormalFault kind.BadFormals
 bad_at before text name tail p e d =
     part_by before text name tail p
     ∙ (ap (λ (o : Option DefineKind). formal_by o name (default_in tail)) e ∙ (ap (with_default name) d ∙ none_by name))
@@ -221,7 +221,7 @@ plain_with : (text name tail from : List ℕ) → IsPart text name tail → is_d
 unfolding is_plain_formal
 plain_with text name tail from p d = and_from _ _ (ap (list_all is_name_byte) p.name_is ∙ leading_named (after_space text)) d
 
-pub size_with : (name from : List ℕ) (n : ℕ) → default_size (default_left from) ≡ n → formal_size (formal_with name from) ≡ length name + (n + 1)
+size_with : (name from : List ℕ) (n : ℕ) → default_size (default_left from) ≡ n → formal_size (formal_with name from) ≡ length name + (n + 1)
 unfolding formal_size
 size_with name from n e = ap (λ (k : ℕ). length name + (k + 1)) e
 
@@ -372,14 +372,14 @@ three_false false false c e = refl
 fault_alone : (before : List Formal) (name : List ℕ) → formal_fault before name ≡ None → formal_fault [] name ≡ None
 fault_alone before name e = fault_three [] name ∙ three_false _ _ _ (sym (fault_three before name) ∙ e)
 
-good_name : (before : List Formal) (text : List ℕ) (o : Option DefineKind) (f : Formal) (following : List ℕ) → formal_fault before (formal_name text) ≡ o → formal_in before text ≡ Good f following → o ≡ None
+good_formal : (before : List Formal) (text : List ℕ) (o : Option DefineKind) (f : Formal) (following : List ℕ) → formal_fault before (formal_name text) ≡ o → formal_in before text ≡ Good f following → o ≡ None
 unfolding formal_in
-good_name before text None f following e g = refl
-good_name before text (Some k) f following e g = grind arith
+good_formal before text None f following e g = refl
+good_formal before text (Some k) f following e g = grind arith
 
 good_alone : (before : List Formal) (text : List ℕ) (f : Formal) (following : List ℕ) → formal_in before text ≡ Good f following → formal_in [] text ≡ Good f following
 unfolding formal_in
-good_alone before text f following g = grind (arith, good_name, fault_alone)
+good_alone before text f following g = grind (arith, good_formal, fault_alone)
 
 -- whether a list was read
 abbrev pub is_listed : FormalList → Bool
@@ -410,7 +410,7 @@ first_by : (left : ℕ) (before : List Formal) (text : List ℕ) (o : OneFormal)
 first_by left before text (FormalFault k) e h = absurd (false≢true (sym (not_listed k) ∙ h))
 first_by left before text (Good f following) e h = grind (arith, told_good, good_alone, list_step, cond-true, cond-false, closed_by)
 
-pub first_of_list : (room : ℕ) (before : List Formal) (text : List ℕ) → is_listed (formals_in room before text) ≡ true → IsFirst room before text
+first_of_list : (room : ℕ) (before : List Formal) (text : List ℕ) → is_listed (formals_in room before text) ≡ true → IsFirst room before text
 first_of_list zero before text h = absurd (false≢true (sym (ap is_listed (list_full before text) ∙ not_listed _) ∙ h))
 first_of_list (suc left) before text h = first_by left before text (formal_in before text) refl (sym (ap is_listed (list_step left before text)) ∙ h)
 
@@ -431,7 +431,7 @@ size_in (suc left) before text h =
       | inr c ↦ omega (arith, ap (λ (l : FormalList). sum_by formal_size (all_of l)) (f.last c), ap (sum_by formal_size) (all_listed (before ++ formal_told text ∷ []) (drop 1 (after_told text))), sum_by-append formal_size before (formal_told text ∷ []))
     ]
 
-pub first_size : (room : ℕ) (before : List Formal) (text : List ℕ) → is_listed (formals_in room before text) ≡ true → sum_by formal_size before + formal_size (formal_told text) ≤ sum_by formal_size (all_of (formals_in room before text))
+first_size : (room : ℕ) (before : List Formal) (text : List ℕ) → is_listed (formals_in room before text) ≡ true → sum_by formal_size before + formal_size (formal_told text) ≤ sum_by formal_size (all_of (formals_in room before text))
 first_size room before text h =
     let f : IsFirst room before text = first_of_list room before text h in
     grind (arith, cases_Bool, size_in, sum_by-append, one_size, all_listed)
@@ -463,7 +463,7 @@ append_next text rest old items more following a h m b =
     let f : IsFirst a.room a.before rest = first_of_list a.room a.before rest (listed_rest text rest old items a h) in
     grind (arith, first_of_list, listed_rest, more_bytes)
 
-pub append_last : (text rest old items more : List ℕ) → IsAppended text rest old items → is_listed (formals_in 255 [] text) ≡ true → more ≡ items ++ formal_bytes (formal_told rest) → eqb (get_or (after_told rest) 0 0) 44 ≡ false → more ≡ old ++ flat_map formal_bytes (all_of (formals_in 255 [] text))
+append_last : (text rest old items more : List ℕ) → IsAppended text rest old items → is_listed (formals_in 255 [] text) ≡ true → more ≡ items ++ formal_bytes (formal_told rest) → eqb (get_or (after_told rest) 0 0) 44 ≡ false → more ≡ old ++ flat_map formal_bytes (all_of (formals_in 255 [] text))
 append_last text rest old items more a h m c =
     let f : IsFirst a.room a.before rest = first_of_list a.room a.before rest (listed_rest text rest old items a h) in
     grind (arith, more_bytes, all_listed)

@@ -1,10 +1,9 @@
 -- White space and names of a text with continuations, and a `define` by its name and what stands after it.
-use Rattle.std.proofs.Common.{◌≡◌, ℕ, ◌+◌, ◌-◌, true, false, List, [], ◌∷◌, length, take, drop, get_or, Option, Some, None, refl, ap, sym, ◌∙◌, arith, suc, ◌<◌, ◌≤◌, bytes_eq, Err, Bool, cond, eqb, one-add, inl, inr, le-ltb, lt-ltb}
+use Rattle.std.proofs.Common.{◌≡◌, ℕ, ◌+◌, ◌-◌, true, false, List, [], ◌∷◌, length, take, drop, get_or, Option, Some, None, refl, ap, sym, ◌∙◌, arith, suc, ◌<◌, ◌≤◌, Err, Bool, cond, eqb, one-add, inl, inr, le-ltb, lt-ltb}
 use Rattle.std.specs.List.{prefix_len}
 use Rattle.std.proofs.lemmas.Bool.{cases_Bool, cond-false, cond-true}
 use Rattle.std.proofs.lemmas.List.{take_rest}
 use Rattle.std.proofs.lemmas.List.Folds.{length-prefix_len}
-use Rattle.std.proofs.lemmas.Slice.Eq.{bytes_eq-Decides}
 use Rattle.rdlpp_scan.specs.Bytes.{is_letter, is_word}
 use Rattle.rdlpp_scan.specs.Reserved.{is_reserved}
 use Rattle.rdlpp_scan.proofs.Seams.{word_ten}
@@ -56,12 +55,12 @@ same_word : (text : List ℕ) → SameRun is_word text
 same_word text = same_run is_word word_ten word_back text
 
 -- the name of a text is the same where continuations are read as their LF
-pub name_joined : (text : List ℕ) → leading_name (as_read true text) ≡ leading_name text
+name_joined : (text : List ℕ) → leading_name (as_read true text) ≡ leading_name text
 unfolding leading_name
 name_joined text = grind (arith, first_same, letter_line, letter_back, same_word)
 
 -- what stands behind the name
-pub name_after : (text : List ℕ) → as_read true (drop (length (leading_name text)) text) ≡ drop (length (leading_name text)) (as_read true text)
+name_after : (text : List ℕ) → as_read true (drop (length (leading_name text)) text) ≡ drop (length (leading_name text)) (as_read true text)
 unfolding leading_name
 name_after text =
     elim (cases_Bool (is_letter (get_or text 0 0))) [
@@ -93,9 +92,6 @@ unfolding formal_list
 nothing_follows text e = cond-false (eqb (get_or text 0 0) 40) _ _ (ap (λ (t : List ℕ). eqb (get_or t 0 0) 40) e)
 
 -- What is wrong with the name of a macro, case by case.
-
-same_bytes : (a b : List ℕ) → bytes_eq a b ≡ true → a ≡ b
-same_bytes a b e = (bytes_eq-Decides a b).0 e
 
 -- why a name is refused, and the word of the refusal
 pub record IsRefused (name : List ℕ) (k : DefineKind) (word : List ℕ) : Type 0 where

@@ -1,3 +1,4 @@
+pub mod Ranges
 pub mod Sizes
 pub mod Words
 pub mod Defaults

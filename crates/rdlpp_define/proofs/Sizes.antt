@@ -1,4 +1,4 @@
--- What formals count is the length of their bytes.
+-- What formals count is the length of their bytes, and what a list counts is how many items it has.
 use Rattle.std.proofs.Common.{◌≡◌, ℕ, ◌≤◌, List, [], ◌∷◌, length, refl, arith, Vec, Global, vec_len, rules, ◌++◌, sum_by, length-append, flat_map}
 use Rattle.std.proofs.lemmas.List.Sums.{sum_by-cons}
 use Rattle.rdlpp_define.specs.Macros.{Formal, default_bytes, default_size, formal_bytes, formal_size}

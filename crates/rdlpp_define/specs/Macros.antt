@@ -1,4 +1,4 @@
--- A macro: its name, its formals and its body, what they count, and what holds of every macro that a `define` gives.
+-- A macro: its name, its formals and its body, what they count, and what holds of every macro that is read.
 -- A definition that names no source is this project's own.
 use Rattle.std.specs.Prelude.{ℕ, ◌+◌, List, [], ◌∷◌, ◌++◌, length, bytes_eq, sum_by, Option, unwrap_or, ◌≡◌, ◌<◌, ◌≤◌, false, All, map}
 use Rattle.std.specs.List.{IsDistinct}
@@ -62,7 +62,7 @@ pub record AreSoundFormals (formals : List Formal) : Type 0 where
   pub short : All (λ f. length f.name ≤ most_name_bytes) formals
   pub texts : All (λ f. IsCleanText f.text) formals
 
--- what holds of every macro of a table: a name that isn't that of a directive, sound formals, and a body that is read whole,
+-- what holds of every macro that is read: a name that isn't that of a directive, sound formals, and a body that is read whole,
 -- without `//` comments
 pub record IsSoundMacro (m : Macro) : Type 0 where
   pub named : 0 < length m.name

@@ -26,9 +26,9 @@ pub enum DefineKind {
     FormalTwice,
     /// F20: there are more than 255 formals.
     TooManyFormals,
-    /// F21: the live definitions would have too many bytes.
+    /// F21: the live definitions would have too many bytes. A table says so, not the reading of a definition.
     DefinitionBytes,
-    /// F22: there would be too many live definitions.
+    /// F22: there would be too many live definitions. A table says so, not the reading of a definition.
     TooManyDefinitions,
 }
 

@@ -38,7 +38,8 @@ impl<'a> Model for NewMacro<'a> {
 }
 
 impl<'a> NewMacro<'a> {
-    /// Its name.
+    /// Its name. A macro that was read is sound: a name of 1 to 128 bytes that isn't that of a directive, formals with distinct
+    /// names, and a body and default texts that are read whole, without `//` comments.
     pub fn name(&self) -> &[u8]
         ensures name { result.now ≡ self.now.name }
         ensures sound { IsSoundMacro self.now }
@@ -67,7 +68,8 @@ impl<'a> NewMacro<'a> {
         self.body_len
     }
 
-    /// Appends its formals as they lie in a table: of each its name, `=` and its default text where it has one, and a comma.
+    /// Appends its formals, for which `to` has room, as they lie in a table: of each its name, `=` and its default text where it
+    /// has one, and a comma, from which they can be told again.
     pub fn append_formals(&self, to: &mut Vec<u8>)
         requires room { vec_len to.old + list_size self.now ≤ vec_capacity to.old }
         ensures items { to.new.items ≡ to.old.items ++ flat_map formal_bytes (formals_of self.now) }
@@ -79,7 +81,7 @@ impl<'a> NewMacro<'a> {
         }
     }
 
-    /// Appends its body.
+    /// Appends its body, for which `to` has room.
     pub fn append_body(&self, to: &mut Vec<u8>)
         requires room { vec_len to.old + length self.now.body ≤ vec_capacity to.old }
         ensures items { to.new.items ≡ to.old.items ++ self.now.body }

@@ -38,7 +38,8 @@ pub fn read_define(rest: &[u8]) -> Result<NewMacro<'_>, DefineFault>
 /// both ends go (this project's profile).
 ///
 /// # Errors
-/// The first fault: of the name, which has to be one name as a whole, or of the body.
+/// The first fault: of the name, which has to be one name as a whole (`NameExpected`, `ReservedName` with that name, `NameTooLong`
+/// past 128 bytes), or of the body (`EmbeddedPerl`, `OpenString`, `OpenComment`).
 pub fn read_named<'a>(name: &'a [u8], text: &'a [u8]) -> Result<NewMacro<'a>, DefineFault>
     ensures { drafted result ≡ macro_set name.now text.now }
 {

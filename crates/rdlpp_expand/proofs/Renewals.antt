@@ -1,9 +1,8 @@
 -- An engine that is made fresh again.
 use Rattle.std.proofs.Common.{◌≡◌, [], None, false, arith}
 use Rattle.std.proofs.lemmas.Bool.{false≢true}
-use Rattle.rdlpp_table.specs.Table.{table_size}
-use Rattle.rdlpp_table.specs.View.{TableView}
-use Rattle.rdlpp_table.specs.declared.limits.Limits.{Limits}
+use Rattle.rdlpp_define.specs.Table.{table_size, TableView}
+use Rattle.rdlpp_define.specs.declared.limits.Limits.{Limits}
 use Rattle.rdlpp_read.specs.Conditions.{ConditionsView}
 use Rattle.rdlpp_read.specs.Buffer.{closed_buffer, unused_of}
 use Rattle.rdlpp_read.specs.Files.{FilesView}

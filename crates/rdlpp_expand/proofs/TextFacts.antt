@@ -5,8 +5,7 @@ use Rattle.std.proofs.lemmas.List.Elements.{All-head, All-tail}
 use Rattle.std.proofs.lemmas.Option.{none-some, same_Some}
 use Rattle.std.proofs.lemmas.Slice.Eq.{bytes_eq-Decides}
 use Rattle.rdlpp_define.specs.Macros.{Macro}
-use Rattle.rdlpp_table.specs.Table.{macro_named}
-use Rattle.rdlpp_table.specs.View.{TableView, macro_at}
+use Rattle.rdlpp_define.specs.Table.{macro_named, TableView, macro_at}
 use Rattle.rdlpp_meaning.specs.Outcome.{Report, report_of}
 use Rattle.rdlpp_meaning.specs.declared.fault.Fault.{Fault}
 use Rattle.rdlpp_source.specs.declared.sources.Sources.{Ghosts}

@@ -47,7 +47,7 @@ mod usage;
 use arrayvec::ArrayString;
 use fronts::location_of;
 pub use looking::OpenSource;
-use rdlpp_define::word_of;
+use rdlpp_define::{Limits, word_of};
 use rdlpp_front::{Argument, SourceItem, next_item};
 use rdlpp_meaning::{Fault, FaultKind};
 use rdlpp_read::{Conditions, Files, Fill, LogicalLine};
@@ -57,7 +57,7 @@ use rdlpp_state::{
     Halt, Held, Marks, Pending, PendingPart, PendingPiece, Phase, Piece, PieceLocation, copied,
     copied_fault, fault_kind,
 };
-use rdlpp_table::{Limits, Table};
+use rdlpp_table::Table;
 use rdlpp_texts::{CursorFault, TextPlace};
 use rdlpp_usages::Expansion;
 use std::alloc::Global;

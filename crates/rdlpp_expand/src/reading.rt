@@ -1,7 +1,7 @@
 // Readings: the output, read into buffers of a caller's.
 ghost use Rattle.std.specs.Prelude.{◌≡◌, ◌+◌, ◌-◌, ◌≤◌, ◌++◌, if◌then◌else◌, [], length, min, take, drop, OnErr};
 ghost use Rattle.std.specs.Option.{option_map};
-ghost use Rattle.rdlpp_table.specs.Stored.{observed, set_of};
+ghost use Rattle.rdlpp_define.specs.Defined.{observed, set_of};
 ghost use Rattle.rdlpp_meaning.specs.Outcome.{report_of};
 ghost use Rattle.rdlpp_state.specs.Held.{IsBounded, held_told};
 ghost use Rattle.rdlpp_state.specs.Steps.{IsStarted};

@@ -22,7 +22,7 @@ use Rattle.rdlpp_scan.proofs.DirectiveNames.{named_is}
 use Rattle.rdlpp_scan.proofs.TokenLens.{first_place-le, list_all-prefix, plain_len-found, token_of-part}
 use Rattle.rdlpp_scan.proofs.SourceLaws.{line_ends-cons}
 use Rattle.rdlpp_scan.proofs.StopKinds.{AtBack, AtBare, AtBlockComment, AtLineComment, AtPerl, AtPlain, AtString, Row, block_token-kind, string_token-kind, token_of-row}
-use Rattle.rdlpp_table.specs.Table.{macro_named}
+use Rattle.rdlpp_define.specs.Table.{macro_named}
 use Rattle.rdlpp_meaning.specs.Expansion.{bytes_of, is_copied, usage_token}
 use Rattle.rdlpp_meaning.specs.Meaning.{Progress, after_bytes, goes_on, leaves}
 use Rattle.rdlpp_meaning.specs.Opened.{Waiting, all_resumed}

@@ -22,7 +22,7 @@ use Rattle.rdlpp_scan.proofs.SourceLaws.{line_len-le, line_len-open, line_len-so
 use Rattle.rdlpp_scan.proofs.RemainingLaws.{Breaks, Copies, GoesThrough, Resumes, perl_in_string, remaining-back, remaining-bare, remaining-closed, remaining-cut_string, remaining-in_comment, remaining-in_string, remaining-line, remaining-open_comment, remaining-open_string, remaining-opened, remaining-ordinary, remaining-perl, remaining-perl_in_string}
 use Rattle.rdlpp_scan.proofs.Seams.{BeforePerl, Closed, OpenComment, OpenString, Seam, token_of-seam}
 use Rattle.rdlpp_scan.proofs.StopKinds.{block_token-kind}
-use Rattle.rdlpp_table.specs.Table.{macro_named}
+use Rattle.rdlpp_define.specs.Table.{macro_named}
 use Rattle.rdlpp_meaning.specs.Expansion.{is_copied, usage_token}
 use Rattle.rdlpp_meaning.specs.Meaning.{Passage, Progress, after_bytes, leaves, unclosed}
 use Rattle.rdlpp_meaning.specs.Opened.{Waiting, all_resumed, unwound}

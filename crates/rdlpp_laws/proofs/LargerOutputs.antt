@@ -5,7 +5,7 @@ use Rattle.rdlpp_scan.specs.declared.token.Directive.{Directive}
 use Rattle.rdlpp_scan.specs.declared.token.Directive.TheVariants.{Define, Undef, Include, Line}
 use Rattle.rdlpp_scan.specs.SourceTokens.{Broken, SourceToken, whole_tokens}
 use Rattle.rdlpp_define.specs.Macros.{Macro, macro_size}
-use Rattle.rdlpp_table.specs.Table.{table_size, without}
+use Rattle.rdlpp_define.specs.Table.{table_size, without}
 use Rattle.rdlpp_meaning.specs.declared.fault.FaultKind.{FaultKind}
 use Rattle.rdlpp_meaning.specs.declared.fault.FaultKind.TheVariants.{TooManyConditionals, TooManyIncludes, IncludeName, SourceNotFound, PathTooLong, BadLine, StrayBranch}
 use Rattle.rdlpp_meaning.specs.Outcome.{Report, Outcome, gives, fails, and_then}
@@ -15,9 +15,9 @@ use Rattle.rdlpp_meaning.specs.Meaning.{Passage, leaves, after_bytes, goes_on, r
 use Rattle.rdlpp_laws.specs.LimitLaws.{is_limit, NamesNoLimit, IsLarger}
 use Rattle.rdlpp_laws.proofs.LargerRuns.{Agrees, IsFault, TornAgrees, run-agrees, run-torn, skip-agrees, skip-torn, sources-torn}
 use Rattle.rdlpp_scan.specs.Front.{Breach}
-use Rattle.rdlpp_table.specs.declared.limits.Limits.{Limits}
+use Rattle.rdlpp_define.specs.declared.limits.Limits.{Limits}
 use Rattle.rdlpp_define.specs.Define.{Draft, Drawn, DraftFault, macro_of}
-use Rattle.rdlpp_table.specs.Stored.{stored, stored_draft, define_of}
+use Rattle.rdlpp_define.specs.Defined.{stored, stored_draft, define_of}
 use Rattle.rdlpp_meaning.specs.declared.fault.FaultKind.TheVariants as fault
 use Rattle.rdlpp_meaning.specs.Expansion.{walk, run_outcome}
 use Rattle.rdlpp_meaning.specs.Resumed.{Place, Live, Skipped, resume}

@@ -10,10 +10,10 @@ use Rattle.rdlpp_scan.specs.Reserved.{is_reserved, reserved_names}
 use Rattle.rdlpp_scan.specs.SourceTokens.{back_step, broken, comment_step, define_step, is_continued, line_after, line_ends, line_len, line_step, logical_len, open_end, remaining_tokens, source_end, source_step, source_tokens, step_by, string_step, whole_tokens}
 use Rattle.rdlpp_scan.specs.Tokens.{block_token, first_place, plain_len, plain_token, stops_plain_text, string_stop, string_token, token_of, tokens_from, whole}
 use Rattle.rdlpp_define.specs.Define.{after_space, after_name, continuation_len, default_in, default_of_tokens, ends_default, formal_fault, formal_in, formal_list, formal_name, formals_in, formals_of_list, is_space, leading_name, level_after as default_level, lexical, logical_text, macro_from, macro_of, name_fault, onto_default, onto_trimmed, refused_word, trimmed, trimmed_default, trimmed_of, unended, with_body, with_default, with_list, without_continuations, without_end, text_without_line_comments}
-use Rattle.rdlpp_table.specs.Stored.{define_of, stored, stored_draft}
+use Rattle.rdlpp_define.specs.Defined.{define_of, stored, stored_draft}
 use Rattle.rdlpp_define.specs.Macros.{Macro, default_size, formal_size, macro_size, most_formals}
-use Rattle.rdlpp_table.specs.Table.{macro_named, table_size, without}
-use Rattle.rdlpp_table.specs.declared.limits.Limits.{Limits}
+use Rattle.rdlpp_define.specs.Table.{macro_named, table_size, without}
+use Rattle.rdlpp_define.specs.declared.limits.Limits.{Limits}
 use Rattle.rdlpp_meaning.specs.Actuals.{actual_of, after_leading_space, broken_role, is_space as actuals_is_space, item_role, item_size, kept_size, kind_role, level_after, token_role, trimmed as actuals_trimmed}
 use Rattle.rdlpp_meaning.specs.CallScan.{call_of_scan, fault_at_end, room_after, scan, scan_onto, scanned, split, split_by, call_state_after, call_state_after_lead, turn as call_turn, turn_before, turn_fitting, turn_inside}
 use Rattle.rdlpp_meaning.specs.Expansion.{bound_parts, expand, is_copied, is_count, name_of, run_outcome, usage_of, usage_of_call, usage_of_formals, usage_of_macro, walk}

@@ -8,7 +8,7 @@ use Rattle.rdlpp_scan.specs.declared.token.Directive.{Directive}
 use Rattle.rdlpp_scan.specs.declared.token.Directive.TheVariants.{Define, Else, Endif, Include, Line}
 use Rattle.rdlpp_scan.specs.declared.token.Kind.TheVariants.{Back, Blank}
 use Rattle.rdlpp_define.specs.Macros.{Formal, Macro}
-use Rattle.rdlpp_table.specs.Table.{macro_named}
+use Rattle.rdlpp_define.specs.Table.{macro_named}
 use Rattle.rdlpp_meaning.specs.Actuals.{Dropped, End, Ends, Halt, Reads, Role, Space, Stops, Text, item_role, token_role}
 use Rattle.rdlpp_meaning.specs.CallScan.{Before, Closed, Closes, Inside, Keeps, Passes, ScanFault, TurnFault as RefusesThing, Scanned, CallState, ScanBreakFault, Turn, call_of_scan, fault_at_end, room_after, scan, scan_onto, scanned, call_state_after, turn, turn_before, turn_fitting, turn_inside}
 use Rattle.rdlpp_meaning.specs.Expansion.{Opens, UsageFault, Usage, usage_of, usage_of_call, usage_of_formals, usage_of_macro}

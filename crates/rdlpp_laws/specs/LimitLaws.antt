@@ -1,7 +1,7 @@
 -- The law of larger limits: where no fault of a limit ends an output, larger limits give the same one.
 -- A definition that names no source is this project's own.
 use Rattle.std.specs.Prelude.{◌≡◌, ℕ, ◌≤◌, Bool, true, false, List, Option, None, Some}
-use Rattle.rdlpp_table.specs.declared.limits.Limits.{Limits}
+use Rattle.rdlpp_define.specs.declared.limits.Limits.{Limits}
 use Rattle.rdlpp_define.specs.Macros.{Macro}
 use Rattle.rdlpp_meaning.specs.declared.fault.FaultKind.{FaultKind}
 use Rattle.rdlpp_meaning.specs.declared.fault.FaultKind.TheVariants.{LineTooLong, SourceTooLong, ArgumentBytes, DepthPassed, DefinitionBytes, TooManyDefinitions, TooManyConditionals, TooManyIncludes, OutputBytes}

@@ -24,7 +24,7 @@ use Rattle.rdlpp_scan.proofs.SourceLaws.{source_tokens-last, source_tokens-next}
 use Rattle.rdlpp_scan.proofs.StopKinds.{closed_kind_plain, one_byte_len}
 use Rattle.rdlpp_scan.proofs.TokenLens.{token_of-part, tokens_from-step}
 use Rattle.rdlpp_define.specs.Macros.{Macro, IsSoundMacro, formals_of}
-use Rattle.rdlpp_table.specs.View.{IsSound, TableView}
+use Rattle.rdlpp_define.specs.Table.{IsSound, TableView}
 use Rattle.rdlpp_meaning.specs.Actuals.{Cut, Down, End, Ends, KeptComment, Role, Start, Stops, Text, Up, broken_role, kind_role, token_role}
 use Rattle.rdlpp_meaning.specs.CallScan.{IsClosed, is_call_text, is_kept, source_role}
 use Rattle.rdlpp_meaning.specs.Expansion.{bytes_of}

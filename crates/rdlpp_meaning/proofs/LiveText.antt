@@ -12,7 +12,7 @@ use Rattle.rdlpp_scan.specs.declared.token.Directive.{Directive}
 use Rattle.rdlpp_scan.specs.declared.token.Directive.TheVariants.{Ifdef}
 use Rattle.rdlpp_scan.specs.declared.token.Kind.{Kind}
 use Rattle.rdlpp_scan.specs.declared.token.Kind.TheVariants.{Back, BareBackquote}
-use Rattle.rdlpp_table.specs.Table.{macro_named}
+use Rattle.rdlpp_define.specs.Table.{macro_named}
 use Rattle.rdlpp_meaning.specs.Actuals.{Halt, Role, item_reads, token_role}
 use Rattle.rdlpp_meaning.specs.CallScan.{Before, Inside, ScanFault as RefusedCall, Scanned, CallState, call_of, call_of_scan, fault_at_end, room_after, scan, scanned, source_role, call_state_after, turn, turn_before, turn_inside}
 use Rattle.rdlpp_meaning.specs.Expansion.{Opens, UsageFault, Usage, bytes_of, expand, is_copied, name_of, run_outcome, usage_of, usage_token, walk}

@@ -11,7 +11,7 @@ use Rattle.rdlpp_scan.specs.declared.token.Kind.TheVariants.{Name}
 use Rattle.rdlpp_scan.specs.declared.token.Mode.{Mode}
 use Rattle.rdlpp_scan.specs.declared.token.Mode.TheVariants.{Plain}
 use Rattle.rdlpp_define.specs.Macros.{Formal, Macro, formals_of}
-use Rattle.rdlpp_table.specs.View.{formal_named, macro_at}
+use Rattle.rdlpp_define.specs.Table.{formal_named, macro_at}
 use Rattle.rdlpp_meaning.specs.Items.{Arg, Item, Written, packed}
 use Rattle.rdlpp_meaning.specs.OpenItems.{item_at, open_items, open_hide_set, own_item, part_items}
 use Rattle.rdlpp_meaning.specs.Opens.{AreOpen, HasParts, Open, OpenActual, OpenBody, OpenDefault, OpenKind, Part, Texts, formal_at, found_formals, found_standing, kind_formals, kind_standing, open_after, open_bytes, open_scope, open_standing, own_text, own_hide_set, part_at, part_tokens, scope_formals, scope_open, scope_text, text_around, hide_set}

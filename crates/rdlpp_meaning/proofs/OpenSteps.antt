@@ -9,7 +9,7 @@ use Rattle.rdlpp_scan.specs.declared.token.Mode.{Mode}
 use Rattle.rdlpp_scan.specs.declared.token.Mode.TheVariants.{Plain}
 use Rattle.rdlpp_scan.proofs.TokenLens.{token_of-part}
 use Rattle.rdlpp_define.specs.Macros.{Formal, Macro, formals_of}
-use Rattle.rdlpp_table.specs.View.{formal_named, macro_at}
+use Rattle.rdlpp_define.specs.Table.{formal_named, macro_at}
 use Rattle.rdlpp_meaning.specs.Actuals.{item_reads, item_role, item_size, kind_role, not_kept, text_reads, token_role}
 use Rattle.rdlpp_meaning.specs.Expansion.{Opens, UsageFault, Usage, expand, is_copied, usage_of, walk}
 use Rattle.rdlpp_meaning.specs.Items.{Arg, Item, Written, listed, packed, unlined, unlined_item}

@@ -11,7 +11,7 @@ use Rattle.rdlpp_scan.specs.declared.token.Kind.TheVariants.{Back}
 use Rattle.rdlpp_scan.specs.declared.token.Mode.TheVariants.{Plain}
 use Rattle.rdlpp_scan.specs.declared.token.Token.{Token}
 use Rattle.rdlpp_define.specs.Macros.{Formal, Macro}
-use Rattle.rdlpp_table.specs.Table.{macro_named}
+use Rattle.rdlpp_define.specs.Table.{macro_named}
 use Rattle.rdlpp_meaning.specs.Actuals.{Bound, Call, Cut, Halt, Reads, Role, Text, actual_of, after_leading_space, is_space, item_reads, item_role, item_size, kept, kind_role, level_after, map_call, source_reads, text_reads, token_role, trimmed}
 use Rattle.rdlpp_meaning.specs.CallScan.{Before, Closed, Closes, Keeps as KeepsThing, Passes, ScanFault, Scanned, Split, CallState, ScanBreakFault, Turn, all_parts, call_of, call_of_scan, is_kept, room_after, scan, scan_onto, scanned, source_role, split, split_by, call_state_after, turn}
 use Rattle.rdlpp_meaning.specs.Expansion.{Opens, UsageFault, Usage, bound_parts, bytes_of, expand, is_count, run_outcome, usage_of, usage_of_call, usage_of_formals, usage_of_macro, usage_token, walk}

@@ -6,7 +6,7 @@ use Rattle.rdlpp_scan.specs.declared.token.Kind.TheVariants.{Back, BareBackquote
 use Rattle.rdlpp_scan.specs.SourceTokens.{Ordinary, Broken, SourceToken}
 use Rattle.rdlpp_scan.specs.Reserved.{is_reserved}
 use Rattle.rdlpp_define.specs.Macros.{Formal, Macro}
-use Rattle.rdlpp_table.specs.Table.{macro_named}
+use Rattle.rdlpp_define.specs.Table.{macro_named}
 use Rattle.rdlpp_meaning.specs.declared.fault.FaultKind.{FaultKind}
 use Rattle.rdlpp_meaning.specs.declared.fault.FaultKind.TheVariants.{BareBackquote as NoName, UndefinedMacro, RecursiveMacro, DirectiveInText, ArgumentCount, DepthPassed}
 use Rattle.rdlpp_meaning.specs.Outcome.{Outcome, gives, fails, and_then}

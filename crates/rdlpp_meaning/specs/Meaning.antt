@@ -8,7 +8,7 @@ use Rattle.rdlpp_scan.specs.declared.token.Directive.TheVariants.{Define, Undef,
 use Rattle.rdlpp_scan.specs.Bytes.{is_blank, is_digit}
 use Rattle.rdlpp_scan.specs.SourceTokens.{Broken, SourceToken}
 use Rattle.rdlpp_scan.specs.Reserved.{is_reserved}
-use Rattle.rdlpp_table.specs.Table.{macro_named, without}
+use Rattle.rdlpp_define.specs.Table.{macro_named, without}
 use Rattle.rdlpp_meaning.specs.declared.fault.FaultKind.{FaultKind}
 use Rattle.rdlpp_meaning.specs.declared.fault.FaultKind.TheVariants.{NameExpected, ReservedName, StrayBranch, BranchAfterElse, OpenConditional, TooManyConditionals, IncludeName, SourceNotFound, TooManyIncludes, BadLine, PathTooLong}
 use Rattle.rdlpp_meaning.specs.Outcome.{Report, Outcome, gives, fails, and_then}

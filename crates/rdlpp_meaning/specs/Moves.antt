@@ -5,7 +5,7 @@ use Rattle.std.specs.Str.{is_utf8}
 use Rattle.rdlpp_scan.specs.SourceTokens.{SourceToken}
 use Rattle.rdlpp_scan.specs.declared.token.Directive.{Directive}
 use Rattle.rdlpp_scan.specs.declared.token.Directive.TheVariants.{Define, Else, Elsif, Endif, Ifdef, Ifndef, Include, Line, Undef}
-use Rattle.rdlpp_table.specs.Table.{without}
+use Rattle.rdlpp_define.specs.Table.{without}
 use Rattle.rdlpp_meaning.specs.declared.fault.FaultKind.{FaultKind}
 use Rattle.rdlpp_meaning.specs.declared.fault.FaultKind.TheVariants.{BadLine, IncludeName, PathTooLong, SourceNotFound, StrayBranch, TooManyIncludes}
 use Rattle.rdlpp_meaning.specs.Outcome.{fails}

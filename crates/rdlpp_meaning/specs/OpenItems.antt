@@ -3,7 +3,7 @@
 -- A definition that names no source is this project's own.
 use Rattle.std.specs.Prelude.{ℕ, suc, ◌-◌, ◌==◌, List, [], ◌∷◌, map, length, Some, if◌then◌else◌}
 use Rattle.rdlpp_scan.specs.SourceTokens.{SourceToken}
-use Rattle.rdlpp_table.specs.View.{macro_at}
+use Rattle.rdlpp_define.specs.Table.{macro_at}
 use Rattle.rdlpp_define.specs.Macros.{formals_of}
 use Rattle.rdlpp_meaning.specs.Outcome.{Outcome, gives, and_then}
 use Rattle.rdlpp_meaning.specs.State.{Rules, State}

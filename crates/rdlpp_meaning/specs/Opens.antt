@@ -7,7 +7,7 @@ use Rattle.rdlpp_scan.specs.declared.token.Mode.{Mode}
 use Rattle.rdlpp_scan.specs.declared.token.Mode.TheVariants.{Plain}
 use Rattle.rdlpp_scan.specs.SourceTokens.{SourceToken}
 use Rattle.rdlpp_define.specs.Macros.{Formal, Macro, formals_of}
-use Rattle.rdlpp_table.specs.View.{macro_at}
+use Rattle.rdlpp_define.specs.Table.{macro_at}
 use Rattle.rdlpp_meaning.specs.TextTokens.{text_tokens}
 
 -- a part of a text: its bytes from one place up to another, and the mode in which they are read

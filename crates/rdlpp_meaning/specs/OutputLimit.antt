@@ -1,7 +1,7 @@
 -- The output of a main path, and the limit on its bytes.
 -- A definition that names no source is this project's own.
 use Rattle.std.specs.Prelude.{ℕ, Bool, nat_le, List, length, take, Some, if◌then◌else◌}
-use Rattle.rdlpp_table.specs.declared.limits.Limits.{Limits}
+use Rattle.rdlpp_define.specs.declared.limits.Limits.{Limits}
 use Rattle.rdlpp_define.specs.Macros.{Macro}
 use Rattle.rdlpp_meaning.specs.declared.fault.FaultKind.TheVariants.{OutputBytes}
 use Rattle.rdlpp_meaning.specs.Outcome.{Report, Outcome}

@@ -2,10 +2,10 @@
 -- A definition that names no source is this project's own.
 use Rattle.std.specs.Prelude.{ℕ, Bool, List}
 use Rattle.rdlpp_scan.specs.SourceTokens.{whole_tokens}
-use Rattle.rdlpp_table.specs.declared.limits.Limits.{Limits}
+use Rattle.rdlpp_define.specs.declared.limits.Limits.{Limits}
 use Rattle.rdlpp_define.specs.declared.fault.DefineKind.{DefineKind}
 use Rattle.rdlpp_define.specs.declared.fault.DefineKind.TheVariants as kind
-use Rattle.rdlpp_table.specs.Stored.{Defined as TableDefined, Accepted as TableAccepted, DefinedFault as TableRefused, define_of}
+use Rattle.rdlpp_define.specs.Defined.{Defined as TableDefined, Accepted as TableAccepted, DefinedFault as TableRefused, define_of}
 use Rattle.rdlpp_meaning.specs.declared.fault.FaultKind.{FaultKind}
 use Rattle.rdlpp_meaning.specs.declared.fault.FaultKind.TheVariants as fault
 use Rattle.rdlpp_meaning.specs.State.{Defined, Accepted, DefinitionFault, Lookup, Rules}

@@ -13,8 +13,8 @@ use Rattle.std.proofs.lemmas.List.Quantifiers.{position-Some}
 use Rattle.std.proofs.lemmas.Map.Keys.{apart_from_distinct}
 use Rattle.std.proofs.lemmas.Slice.Eq.{bytes_eq-Decides}
 use Rattle.rdlpp_define.specs.Macros.{Formal, Macro, default_bytes, formal_bytes, formals_of}
-use Rattle.rdlpp_table.specs.Table.{macro_bytes}
-use Rattle.rdlpp_table.specs.View.{macro_at}
+use Rattle.rdlpp_table.specs.Store.{macro_bytes}
+use Rattle.rdlpp_define.specs.Table.{macro_at}
 use Rattle.rdlpp_table.proofs.Orders.{position_is}
 use Rattle.rdlpp_reports.specs.Definitions.{BeginsWith, continued, definition_line, ends_in_slash, ends_name, formal_part, formal_text, formals_text, list_text, marked_text}
 use Rattle.rdlpp_reports.specs.Dependencies.{empty_rule, included, prerequisite, quote, rule_name}

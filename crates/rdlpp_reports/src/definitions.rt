@@ -5,8 +5,8 @@ ghost use Rattle.rdlpp_reports.specs.Definitions.{BeginsWith, continued, continu
 ghost use Rattle.std.specs.List.{flat_map};
 ghost use Rattle.rdlpp_reports.specs.Writes.{Writes};
 ghost use Rattle.rdlpp_define.specs.Macros.{AreSoundFormals, formals_of, formal_bytes};
-ghost use Rattle.rdlpp_table.specs.View.{IsSound, formal_at, formal_named, macro_at};
-ghost use Rattle.rdlpp_table.specs.Table.{macro_bytes};
+ghost use Rattle.rdlpp_define.specs.Table.{IsSound, formal_at, formal_named, macro_at};
+ghost use Rattle.rdlpp_table.specs.Store.{macro_bytes};
 
 use crate::writing::{write_parts, write_whole};
 use rdlpp_scan::{byte_at, word_bytes};
@@ -23,7 +23,7 @@ const MOST_NAME_BYTES: usize = 128;
 ///
 /// # Errors
 /// As of `write_whole`; the first bytes of the lines, or none, are then written.
-#[tactic(auto, unfolding(rdlpp_table::specs::Table::table_bytes))]
+#[tactic(auto, unfolding(rdlpp_table::specs::Store::table_bytes))]
 pub fn write_definitions<W: Write>(table: &Table, writer: &mut W) -> io::Result<()>
     ensures { Writes (W.contents writer.old) (W.contents writer.new) (definition_lines table.now.macros) result }
 {

@@ -9,8 +9,8 @@ use Rattle.rdlpp_scan.specs.declared.token.Kind.TheVariants.{Perl}
 use Rattle.rdlpp_scan.specs.declared.token.Mode.{Mode}
 use Rattle.rdlpp_scan.specs.declared.token.Mode.TheVariants.{Plain}
 use Rattle.rdlpp_define.specs.Macros.{Macro}
-use Rattle.rdlpp_table.specs.Table.{macro_named, without}
-use Rattle.rdlpp_table.specs.declared.limits.Limits.{Limits}
+use Rattle.rdlpp_define.specs.Table.{macro_named, without}
+use Rattle.rdlpp_define.specs.declared.limits.Limits.{Limits}
 use Rattle.rdlpp_meaning.specs.Moves.{Move, Moves, Passes, Stops, branching_move, by_move, closing_move, in_branch, move_of, opening_move, single_move, skipped_move, turning_move, undef_move}
 use Rattle.rdlpp_meaning.specs.Meaning.{Checked, begun, in_conditional, opening, past_conditional, turn, turned, NameFault, Fine, Holds, Progress, TestFault, Test, after_bytes, is_defined, is_else, leaves, macro_name, name_test, opening_within, wants_defined}
 use Rattle.rdlpp_meaning.specs.Outcome.{fails}

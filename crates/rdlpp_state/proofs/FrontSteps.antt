@@ -9,11 +9,10 @@ use Rattle.rdlpp_scan.specs.declared.token.Directive.TheVariants.{Define}
 use Rattle.rdlpp_scan.specs.declared.token.Mode.{Mode}
 use Rattle.rdlpp_scan.specs.declared.token.Mode.TheVariants.{Plain}
 use Rattle.rdlpp_define.specs.Macros.{Macro}
-use Rattle.rdlpp_table.specs.Table.{macro_named}
-use Rattle.rdlpp_table.specs.View.{TableView}
-use Rattle.rdlpp_table.specs.declared.limits.Limits.{Limits}
-use Rattle.rdlpp_table.specs.Stored.{define_of}
-use Rattle.rdlpp_table.specs.Stored as table_stored
+use Rattle.rdlpp_define.specs.Table.{macro_named, TableView}
+use Rattle.rdlpp_define.specs.declared.limits.Limits.{Limits}
+use Rattle.rdlpp_define.specs.Defined.{define_of}
+use Rattle.rdlpp_define.specs.Defined as table_stored
 use Rattle.rdlpp_define.specs.declared.fault.DefineKind.{DefineKind}
 use Rattle.rdlpp_define.specs.declared.fault.DefineKind.TheVariants as define
 use Rattle.rdlpp_meaning.specs.declared.fault.FaultKind.{FaultKind}

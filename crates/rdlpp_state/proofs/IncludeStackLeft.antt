@@ -9,8 +9,8 @@ use Rattle.rdlpp_scan.specs.declared.token.Directive.TheVariants.{Define}
 use Rattle.rdlpp_scan.specs.declared.token.Mode.{Mode}
 use Rattle.rdlpp_scan.specs.declared.token.Mode.TheVariants.{Plain}
 use Rattle.rdlpp_define.specs.Macros.{Macro}
-use Rattle.rdlpp_table.specs.Table.{macro_named}
-use Rattle.rdlpp_table.specs.declared.limits.Limits.{Limits}
+use Rattle.rdlpp_define.specs.Table.{macro_named}
+use Rattle.rdlpp_define.specs.declared.limits.Limits.{Limits}
 use Rattle.rdlpp_meaning.specs.Moves.{in_branch}
 use Rattle.rdlpp_meaning.specs.Meaning.{Passage, Progress, after_bytes, leaves}
 use Rattle.rdlpp_meaning.specs.Opened.{Waiting, unwound}

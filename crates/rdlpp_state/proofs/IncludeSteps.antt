@@ -10,7 +10,7 @@ use Rattle.rdlpp_scan.specs.declared.token.Directive.TheVariants.{Include}
 use Rattle.rdlpp_scan.specs.declared.token.Mode.{Mode}
 use Rattle.rdlpp_scan.specs.declared.token.Mode.TheVariants.{Plain}
 use Rattle.rdlpp_define.specs.Macros.{Macro}
-use Rattle.rdlpp_table.specs.declared.limits.Limits.{Limits}
+use Rattle.rdlpp_define.specs.declared.limits.Limits.{Limits}
 use Rattle.rdlpp_meaning.specs.Meaning.{Passage, Progress, back_in, after_bytes, goes_on, origin_line, unquoted}
 use Rattle.rdlpp_meaning.specs.Moves.{Enters, Move, Stops, found_move, include_move, move_of, single_move}
 use Rattle.rdlpp_meaning.specs.Opened.{all_resumed, unwound}

@@ -5,7 +5,7 @@ use Rattle.rdlpp_scan.specs.SourceTokens.{line_ends, line_len}
 use Rattle.rdlpp_scan.specs.declared.token.Directive.TheVariants.{Line}
 use Rattle.rdlpp_scan.specs.declared.token.Mode.TheVariants.{Plain}
 use Rattle.rdlpp_define.specs.Macros.{Macro}
-use Rattle.rdlpp_table.specs.declared.limits.Limits.{Limits}
+use Rattle.rdlpp_define.specs.declared.limits.Limits.{Limits}
 use Rattle.rdlpp_meaning.specs.Meaning.{Passage, Progress, Renumbered, after_bytes, leaves, origin_line, renumbered}
 use Rattle.rdlpp_meaning.specs.Moves.{Move, Stops, line_move, move_of, moves_on, single_move}
 use Rattle.rdlpp_meaning.specs.Opened.{Waiting}

@@ -5,8 +5,8 @@ use Rattle.std.proofs.lemmas.Bool.Decides.{nat_tests}
 use Rattle.std.proofs.lemmas.List.{get_or_past, reverse-append}
 use Rattle.std.proofs.lemmas.List.Elements.{All-append, All-cons, All-head, All-nil, All-same, All-tail}
 use Rattle.rdlpp_scan.specs.SourceTokens.{SourceToken, whole_tokens}
-use Rattle.rdlpp_table.specs.Limits.{AreInRange}
-use Rattle.rdlpp_table.specs.declared.limits.Limits.{Limits}
+use Rattle.rdlpp_define.specs.Limits.{AreInRange}
+use Rattle.rdlpp_define.specs.declared.limits.Limits.{Limits}
 use Rattle.rdlpp_table.proofs.Sizes.{length_table_bytes}
 use Rattle.rdlpp_meaning.specs.Meaning.{Passage, after_bytes, origin_line, outcome}
 use Rattle.rdlpp_meaning.specs.Opened.{all_resumed}

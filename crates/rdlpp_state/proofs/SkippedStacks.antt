@@ -22,7 +22,7 @@ use Rattle.rdlpp_scan.proofs.SourceLaws.{line_ends-append, line_ends-cons}
 use Rattle.rdlpp_scan.proofs.StopKinds.{AtBack, AtBare, AtBlockComment, AtLineComment, AtPerl, AtPlain, AtString, Row, token_of-row}
 use Rattle.rdlpp_scan.proofs.TokenSteps.{word-line_end}
 use Rattle.rdlpp_define.specs.Macros.{Macro}
-use Rattle.rdlpp_table.specs.declared.limits.Limits.{Limits}
+use Rattle.rdlpp_define.specs.declared.limits.Limits.{Limits}
 use Rattle.rdlpp_meaning.specs.Moves.{in_branch, move_of, moves_on, single_move, skipped_move}
 use Rattle.rdlpp_meaning.specs.Meaning.{Passage, Progress, after_bytes, leaves}
 use Rattle.rdlpp_meaning.specs.Opened.{Waiting, all_resumed}

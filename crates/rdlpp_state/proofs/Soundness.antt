@@ -5,9 +5,8 @@ use Rattle.std.proofs.lemmas.List.Elements.{All-head, All-same, All-tail}
 use Rattle.rdlpp_scan.specs.declared.token.Directive.{Directive}
 use Rattle.rdlpp_scan.specs.declared.token.Mode.TheVariants.{Plain}
 use Rattle.rdlpp_define.specs.Macros.{Macro}
-use Rattle.rdlpp_table.specs.Table.{table_size}
-use Rattle.rdlpp_table.specs.View.{TableView}
-use Rattle.rdlpp_table.specs.declared.limits.Limits.{Limits}
+use Rattle.rdlpp_define.specs.Table.{table_size, TableView}
+use Rattle.rdlpp_define.specs.declared.limits.Limits.{Limits}
 use Rattle.rdlpp_meaning.specs.Moves.{in_branch}
 use Rattle.rdlpp_meaning.specs.Meaning.{Holds, Passage, Progress, after_bytes, goes_on, leaves, opening_within}
 use Rattle.rdlpp_meaning.specs.OpenItems.{open_left}

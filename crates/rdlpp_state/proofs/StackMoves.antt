@@ -5,7 +5,7 @@ use Rattle.rdlpp_scan.specs.Reserved.{directive_word}
 use Rattle.rdlpp_scan.specs.SourceTokens.{SourceToken, whole_tokens}
 use Rattle.rdlpp_scan.specs.declared.token.Directive.{Directive}
 use Rattle.rdlpp_define.specs.Macros.{Macro}
-use Rattle.rdlpp_table.specs.declared.limits.Limits.{Limits}
+use Rattle.rdlpp_define.specs.declared.limits.Limits.{Limits}
 use Rattle.rdlpp_meaning.specs.Moves.{Enters, Move, Moves, Passes, Stops, in_branch, move_of, moves_on}
 use Rattle.rdlpp_meaning.specs.Meaning.{Passage, Progress, added_end, after_bytes, at_start_of, back_in, in_conditional, is_else, origin_line, past_conditional}
 use Rattle.rdlpp_meaning.specs.Opened.{Waiting, all_resumed, unwound, waiting}

@@ -6,7 +6,7 @@ use Rattle.arrayvec.specs.declared.array_string.ArrayString.{ArrayString}
 use Rattle.rdlpp_scan.specs.declared.token.Mode.{Mode}
 use Rattle.rdlpp_scan.specs.declared.token.Mode.TheVariants.{Plain}
 use Rattle.rdlpp_define.specs.Macros.{Formal, Macro}
-use Rattle.rdlpp_table.specs.View.{macro_at}
+use Rattle.rdlpp_define.specs.Table.{macro_at}
 use Rattle.rdlpp_meaning.specs.CallScan.{Before}
 use Rattle.rdlpp_meaning.specs.Opens.{Open}
 use Rattle.rdlpp_meaning.specs.Outcome.{Report}

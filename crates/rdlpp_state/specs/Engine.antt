@@ -1,11 +1,10 @@
 -- What a contract sees of an engine.
 -- A definition that names no source is this project's own.
 use Rattle.std.specs.Prelude.{◌≡◌, ℕ, ◌+◌, ◌^◌, ◌≤◌, ◌<◌, Bool, true, false, List, [], ◌∷◌, Option, length, ⊤}
-use Rattle.rdlpp_table.specs.Limits.{AreInRange}
+use Rattle.rdlpp_define.specs.Limits.{AreInRange}
 use Rattle.rdlpp_define.specs.Macros.{Macro}
-use Rattle.rdlpp_table.specs.Table.{table_size}
-use Rattle.rdlpp_table.specs.View.{TableView}
-use Rattle.rdlpp_table.specs.declared.limits.Limits.{Limits}
+use Rattle.rdlpp_define.specs.Table.{table_size, TableView}
+use Rattle.rdlpp_define.specs.declared.limits.Limits.{Limits}
 use Rattle.rdlpp_meaning.specs.Outcome.{Report}
 use Rattle.rdlpp_read.specs.Conditions.{ConditionsView}
 use Rattle.rdlpp_read.specs.Files.{FilesView}

@@ -1,8 +1,8 @@
 -- The held stores, and their bound.
 -- A definition that names no source is this project's own.
 use Rattle.std.specs.Prelude.{◌≡◌, ℕ, ◌+◌, ◌*◌, ◌≤◌, All, List, length, sum_by}
-use Rattle.rdlpp_table.specs.Table.{table_bytes}
-use Rattle.rdlpp_table.specs.declared.limits.Limits.{Limits}
+use Rattle.rdlpp_table.specs.Store.{table_bytes}
+use Rattle.rdlpp_define.specs.declared.limits.Limits.{Limits}
 use Rattle.rdlpp_read.specs.Files.{held_windows}
 use Rattle.rdlpp_texts.specs.Opened.{bound_by}
 use Rattle.rdlpp_texts.specs.Places.{texts_of}

@@ -4,7 +4,7 @@ use Rattle.std.specs.Prelude.{◌≡◌, ◌<◌, ◌≤◌, ◌⊎◌, ℕ, Lis
 use Rattle.rdlpp_scan.specs.Front.{Breach}
 use Rattle.rdlpp_scan.specs.SourceTokens.{line_ends}
 use Rattle.rdlpp_scan.specs.declared.token.Mode.TheVariants.{Plain}
-use Rattle.rdlpp_table.specs.Stored.{Accepted, DefinedFault, define_of}
+use Rattle.rdlpp_define.specs.Defined.{Accepted, DefinedFault, define_of}
 use Rattle.rdlpp_define.specs.Macros.{Macro}
 use Rattle.rdlpp_define.specs.declared.fault.DefineKind.{DefineKind}
 use Rattle.rdlpp_meaning.specs.declared.fault.FaultKind.{FaultKind}

@@ -10,7 +10,7 @@ use Rattle.rdlpp_meaning.specs.State.{State, fault_at}
 use Rattle.rdlpp_meaning.specs.Outcome.{Report, Outcome, gives, fails, and_then}
 use Rattle.rdlpp_read.specs.Buffer.{BufferView, Slides, held_of, reading_line_of}
 use Rattle.rdlpp_define.specs.Macros.{Macro}
-use Rattle.rdlpp_table.specs.Table.{macro_named}
+use Rattle.rdlpp_define.specs.Table.{macro_named}
 use Rattle.rdlpp_read.specs.Files.{consumed_file, inner_buffer, with_buffer, with_inner}
 use Rattle.rdlpp_front.specs.SourceItems.{IsUsage, usage_name}
 use Rattle.rdlpp_usages.specs.Usages.{KeepsUsage, UsesSource, is_opened}

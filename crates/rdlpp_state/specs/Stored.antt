@@ -7,7 +7,7 @@ use Rattle.rdlpp_read.specs.Buffer.{BufferView, text_left, unread_of}
 use Rattle.rdlpp_read.specs.declared.files.File.{File}
 use Rattle.rdlpp_scan.specs.declared.token.Mode.TheVariants.{Plain}
 use Rattle.rdlpp_define.specs.Macros.{Formal, Macro}
-use Rattle.rdlpp_table.specs.View.{macro_at}
+use Rattle.rdlpp_define.specs.Table.{macro_at}
 use Rattle.rdlpp_meaning.specs.Opens.{Open}
 use Rattle.rdlpp_meaning.specs.CallScan.{Before}
 use Rattle.rdlpp_usages.specs.CallReads.{ReadsUpTo}

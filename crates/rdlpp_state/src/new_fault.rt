@@ -1,6 +1,6 @@
 // Why there is no engine.
 
-use rdlpp_table::LimitFault;
+use rdlpp_define::LimitFault;
 
 /// Why an engine can't be made. The sources are dropped.
 #[derive(Clone, Copy, Debug, PartialEq, Eq)]

@@ -19,7 +19,7 @@ use Rattle.rdlpp_scan.proofs.TokenLens.{tokens_from-step, token_of-part}
 use Rattle.rdlpp_table.specs.declared.point.ExpansionPoint.{ExpansionPoint}
 use Rattle.rdlpp_define.specs.Macros.{Formal, Macro, formals_of}
 use Rattle.rdlpp_table.specs.ExpansionPoints.{next_expansion_point, is_none, or_point, point_at, point_name, point_of, point_in}
-use Rattle.rdlpp_table.specs.View.{formal_named, TableView, macro_at}
+use Rattle.rdlpp_define.specs.Table.{formal_named, TableView, macro_at}
 use Rattle.rdlpp_scan.specs.Ordinary.{is_plain_kind}
 use Rattle.rdlpp_scan.proofs.RemainingLaws.{plain_token-run, IsRun}
 use Rattle.rdlpp_scan.proofs.RangeLaws.{token_of-front}

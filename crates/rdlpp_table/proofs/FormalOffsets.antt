@@ -13,7 +13,7 @@ use Rattle.rdlpp_table.specs.Shapes.{AreShapes, shape, shapes_of}
 use Rattle.rdlpp_table.specs.Store.{AreStoredFormals, StoredFormal, formal_after, formal_read, formals_read}
 use Rattle.rdlpp_define.specs.Plain.{is_name_byte, is_plain_formal}
 use Rattle.rdlpp_define.specs.Macros.{Formal, default_bytes, formal_bytes, formal_size}
-use Rattle.rdlpp_table.specs.View.{formal_at, formal_named}
+use Rattle.rdlpp_define.specs.Table.{formal_at, formal_named}
 use Rattle.rdlpp_table.proofs.RoundTrip.{count_read, read_formal}
 use Rattle.rdlpp_define.proofs.Sizes.{length_formal_bytes, length_list_bytes}
 use Rattle.rdlpp_table.proofs.Sizes.{length_halves, length_start_halves, length_starts, position_first}

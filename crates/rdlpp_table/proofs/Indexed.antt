@@ -12,8 +12,7 @@ use Rattle.rdlpp_table.specs.Layout.{IsHeld, view_of}
 use Rattle.rdlpp_table.specs.FormalOffsets.{table_offsets}
 use Rattle.rdlpp_table.specs.Store.{IsStored, entry_end, macro_in, macros_in, name_of}
 use Rattle.rdlpp_define.specs.Macros.{Macro}
-use Rattle.rdlpp_table.specs.Table.{macro_named, without}
-use Rattle.rdlpp_table.specs.View.{TableView, no_macro, place_named}
+use Rattle.rdlpp_define.specs.Table.{macro_named, without, TableView, no_macro, place_named}
 use Rattle.rdlpp_table.specs.declared.entry.Entry.{Entry}
 use Rattle.rdlpp_table.proofs.Orders.{count_names, indexed_gap, indexed_place, less_part, more_part, name_of_macro, one_place, turned, turned_back}
 use Rattle.rdlpp_table.proofs.RoundTrip.{read_back, stored_count}
@@ -197,7 +196,7 @@ key_new names order name gap n g e =
 -- a place of an index with one place more: one of those before, the new one, or one of those behind
 data Spot (gap j : ℕ) : Type 0 where
   Before : j < gap → Spot gap j
-  NewMacro : j ≡ gap → Spot gap j
+  New : j ≡ gap → Spot gap j
   After : (i : ℕ) → gap ≤ i → j ≡ i + 1 → Spot gap j
 
 spot : (gap j : ℕ) → Spot gap j
@@ -206,27 +205,27 @@ spot gap j =
       | inl h ↦ Before h
       | inr h ↦ elim (cases_lt gap j) [
         | inl g ↦ After (j - 1) (omega arith) (omega arith)
-        | inr g ↦ NewMacro (omega arith)
+        | inr g ↦ New (omega arith)
       ]
     ]
 
 entered_sorted : (names : List (List ℕ)) (order name : List ℕ) (gap n j k : ℕ) → IsIndex names order → IsGap names order name gap → n ≡ length names → j < k → k < length order + 1 → Spot gap j → Spot gap k → index_order (key_at (names ++ name ∷ []) (insert order gap n) j) (key_at (names ++ name ∷ []) (insert order gap n) k) ≡ Less
 entered_sorted names order name gap n j k x g e h l (Before a) (Before b) =
     rw (key_below names order name gap n j x g.fits a, key_below names order name gap n k x g.fits b) (x.sorted j k h (omega (arith, g.fits)))
-entered_sorted names order name gap n j k x g e h l (Before a) (NewMacro b) =
+entered_sorted names order name gap n j k x g e h l (Before a) (New b) =
     ap (λ (i : ℕ). index_order (key_at (names ++ name ∷ []) (insert order gap n) j) (key_at (names ++ name ∷ []) (insert order gap n) i)) b
     ∙ rw (key_below names order name gap n j x g.fits a, key_new names order name gap n g.fits e) (g.below j a)
 entered_sorted names order name gap n j k x g e h l (Before a) (After i b f) =
     ap (λ (i : ℕ). index_order (key_at (names ++ name ∷ []) (insert order gap n) j) (key_at (names ++ name ∷ []) (insert order gap n) i)) f
     ∙ rw (key_below names order name gap n j x g.fits a, key_above names order name gap n i x g.fits b (omega arith)) (x.sorted j i (omega arith) (omega arith))
-entered_sorted names order name gap n j k x g e h l (NewMacro a) (Before b) = absurd (omega arith)
-entered_sorted names order name gap n j k x g e h l (NewMacro a) (NewMacro b) = absurd (omega arith)
-entered_sorted names order name gap n j k x g e h l (NewMacro a) (After i b f) =
+entered_sorted names order name gap n j k x g e h l (New a) (Before b) = absurd (omega arith)
+entered_sorted names order name gap n j k x g e h l (New a) (New b) = absurd (omega arith)
+entered_sorted names order name gap n j k x g e h l (New a) (After i b f) =
     ap (λ (i : ℕ). index_order (key_at (names ++ name ∷ []) (insert order gap n) j) (key_at (names ++ name ∷ []) (insert order gap n) i)) f
     ∙ (ap (λ (i' : ℕ). index_order (key_at (names ++ name ∷ []) (insert order gap n) i') (key_at (names ++ name ∷ []) (insert order gap n) (i + 1))) a
     ∙ rw (key_new names order name gap n g.fits e, key_above names order name gap n i x g.fits b (omega arith)) (turned _ name (g.above i b (omega arith))))
 entered_sorted names order name gap n j k x g e h l (After i a f) (Before b) = absurd (omega arith)
-entered_sorted names order name gap n j k x g e h l (After i a f) (NewMacro b) = absurd (omega arith)
+entered_sorted names order name gap n j k x g e h l (After i a f) (New b) = absurd (omega arith)
 entered_sorted names order name gap n j k x g e h l (After i a f) (After i2 b f2) =
     ap (λ (q : ℕ). index_order (key_at (names ++ name ∷ []) (insert order gap n) j) (key_at (names ++ name ∷ []) (insert order gap n) q)) f2
     ∙ (ap (λ (q : ℕ). index_order (key_at (names ++ name ∷ []) (insert order gap n) q) (key_at (names ++ name ∷ []) (insert order gap n) (i2 + 1))) f
@@ -235,7 +234,7 @@ entered_sorted names order name gap n j k x g e h l (After i a f) (After i2 b f2
 entered_inside : (names : List (List ℕ)) (order name : List ℕ) (gap n j : ℕ) → IsIndex names order → gap ≤ length order → n ≡ length names → j < length order + 1 → Spot gap j → get_or (insert order gap n) j 0 < length (names ++ name ∷ [])
 entered_inside names order name gap n j x g e l (Before a) =
     omega (arith, get_or-insert_below order gap n 0 j a g, x.inside j (omega arith), length-append names (name ∷ []))
-entered_inside names order name gap n j x g e l (NewMacro a) =
+entered_inside names order name gap n j x g e l (New a) =
     omega (arith, ap (λ (i : ℕ). get_or (insert order gap n) i 0) a ∙ get_or-insert_at order gap n 0 g, length-append names (name ∷ []))
 entered_inside names order name gap n j x g e l (After i a f) =
     omega (arith, ap (λ (i' : ℕ). get_or (insert order gap n) i' 0) f ∙ get_or-insert_above order gap n 0 i a g, x.inside i (omega arith), length-append names (name ∷ []))

@@ -3,14 +3,12 @@ use Rattle.std.proofs.Common.{◌≡◌, ℕ, true, List, ◌++◌, take, drop, 
 use Rattle.std.specs.List.{list_all}
 use Rattle.std.proofs.lemmas.Grind.{common_steps}
 use Rattle.rdlpp_define.specs.Macros.{Formal, Macro, formal_bytes, macro_size, formals_of, list_size}
-use Rattle.rdlpp_table.specs.Table.{macro_bytes}
+use Rattle.rdlpp_table.specs.Store.{macro_bytes, points_told, entry_of, formals_read, AreStoredFormals}
 use Rattle.rdlpp_table.proofs.Taken.{between_parts}
 use Rattle.rdlpp_table.proofs.RoundTrip.{read_list}
 use Rattle.rdlpp_table.specs.PointCache.{cached_points}
-use Rattle.rdlpp_table.specs.Store.{points_told, entry_of, formals_read, AreStoredFormals}
 use Rattle.rdlpp_table.specs.declared.point_cache.PointCache.{PointCache}
 use Rattle.rdlpp_table.specs.declared.entry.Entry.{Entry}
-use Rattle.rdlpp_define.specs.Formals.{listed}
 use Rattle.rdlpp_table.specs.FormalOffsets.{macro_offsets, offsets_of}
 use Rattle.rdlpp_define.specs.Plain.{is_plain_formal, is_plain_macro}
 use Rattle.rdlpp_table.proofs.Sizes.{count_formals, few_offsets_of}
@@ -29,10 +27,10 @@ pub new_bytes : (bytes named listed done : List ℕ) (m : Macro) → named ≡ b
 unfolding macro_bytes
 new_bytes bytes named listed done m e f g = grind (arith, append_assoc)
 
--- the formals of a macro that is to be stored are read back from their bytes
 count_of : (m : Macro) (arity : Option ℕ) → arity ≡ option_map length m.formals → unwrap_or arity 0 ≡ length (formals_of m)
 count_of m arity e = ap (λ (a : Option ℕ). unwrap_or a 0) e ∙ count_formals m.formals
 
+-- the formals of a macro that is to be stored are read back from their bytes
 same_formals : (m : Macro) (count : ℕ) → is_plain_macro m ≡ true → count ≡ length (formals_of m) → formals_read count (flat_map formal_bytes (formals_of m)) ≡ formals_of m
 unfolding is_plain_macro
 same_formals m count p n = ap (λ (k : ℕ). formals_read k (flat_map formal_bytes (formals_of m))) n ∙ read_list (formals_of m) p

@@ -16,7 +16,7 @@ use Rattle.std.proofs.lemmas.Map.Text.{is_eq-slice_cmp}
 use Rattle.std.proofs.lemmas.Slice.Eq.{bytes_eq-Decides}
 use Rattle.rdlpp_table.specs.Index.{IsCounted, IsDivided, IsGap, IsIndex, IsMiddle, IsPlace, index_order, key_at, name_at, name_order, names_of, bucket_of, fold_bytes, mix, mix_through}
 use Rattle.rdlpp_define.specs.Macros.{Macro}
-use Rattle.rdlpp_table.specs.View.{macro_at, no_macro, place_named}
+use Rattle.rdlpp_define.specs.Table.{macro_at, no_macro, place_named}
 
 -- Bytes that are compared as numbers.
 

@@ -21,7 +21,7 @@ use Rattle.rdlpp_table.specs.declared.point_cache.PackedKind.{PackedKind}
 use Rattle.rdlpp_table.specs.declared.point_cache.PackedKind.TheVariants as kept
 use Rattle.rdlpp_table.specs.ExpansionPoints.{next_expansion_point, is_none, or_point, point_at, point_name, point_of}
 use Rattle.rdlpp_define.specs.Macros.{Formal}
-use Rattle.rdlpp_table.specs.View.{formal_named}
+use Rattle.rdlpp_define.specs.Table.{formal_named}
 use Rattle.rdlpp_table.proofs.FirstPoints.{IsFrom, back_when, begins, begins_end, after_place, when, cut_more, cut_token, front_first, one_token, or_none, or_some, inert_one, run_drop, tokens_within}
 
 -- The first token of a text that begins with a plain argument byte.

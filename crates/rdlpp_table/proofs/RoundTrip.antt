@@ -8,16 +8,15 @@ use Rattle.std.proofs.lemmas.List.{drop-append-le}
 use Rattle.std.proofs.lemmas.List.Elements.{All-filter, All-push}
 use Rattle.std.proofs.lemmas.List.Folds.{list_all-append}
 use Rattle.rdlpp_scan.specs.KeptText.{text_after}
-use Rattle.rdlpp_table.specs.Stored.{Accepted, DefinedFault, define_of, observed, set_of, stored, stored_draft}
+use Rattle.rdlpp_define.specs.Defined.{Accepted, DefinedFault, define_of, observed, set_of, stored, stored_draft}
 use Rattle.rdlpp_define.specs.Define.{Draft, drafted, macro_of, macro_set}
 use Rattle.rdlpp_table.specs.Entries.{offsets_len}
 use Rattle.rdlpp_table.specs.Layout.{IsHeld, view_of}
 use Rattle.rdlpp_table.specs.FormalOffsets.{macro_offsets, offsets_of, table_offsets}
-use Rattle.rdlpp_table.specs.Store.{AreStoredFormals, IsStored, after_stored, body_of, body_start, entries_of, entry_end, entry_of, formal_after, formal_read, formals_read, list_of, list_start, macro_in, macros_in, name_of}
+use Rattle.rdlpp_table.specs.Store.{AreStoredFormals, IsStored, after_stored, body_of, body_start, entries_of, entry_end, entry_of, formal_after, formal_read, formals_read, list_of, list_start, macro_in, macros_in, name_of, macro_bytes, table_bytes}
 use Rattle.rdlpp_define.specs.Plain.{is_default, is_name_byte, is_plain_formal, is_plain_macro}
 use Rattle.rdlpp_define.specs.Macros.{list_size, Formal, Macro, default_bytes, formal_bytes, formal_size, macro_size, IsSoundMacro, formals_of}
-use Rattle.rdlpp_table.specs.Table.{macro_bytes, table_bytes, table_size, without}
-use Rattle.rdlpp_table.specs.View.{IsSound, TableView, macro_at, place_named}
+use Rattle.rdlpp_define.specs.Table.{table_size, without, IsSound, TableView, macro_at, place_named}
 use Rattle.rdlpp_table.specs.declared.entry.Entry.{Entry}
 use Rattle.rdlpp_define.specs.declared.fault.DefineFault.{DefineFault}
 use Rattle.rdlpp_define.specs.declared.fault.DefineKind.{DefineKind}

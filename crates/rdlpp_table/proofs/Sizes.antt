@@ -1,8 +1,8 @@
--- Sizes, and the ranges of limits.
+-- What macros and tables count, and where a table's entries lie.
 use Rattle.rdlpp_define.proofs.Sizes.{count_items, length_list_bytes}
-use Rattle.std.proofs.Common.{◌≡◌, ℕ, zero, suc, ◌+◌, ◌-◌, ◌≤◌, Bool, cond, ltb, one-add, List, [], ◌∷◌, length, get_or, Option, Some, None, option_map, refl, ap, sym, ◌∙◌, arith, ◌*◌, ◌/◌, true, false, Vec, Global, vec_len, ◌<◌, ◌++◌, take, unwrap_or, sum_by, length-append, add-zero, is_some, drop, leb, All, find, flat_map, position, le-leb, le-ltb, leb-true, lt-ltb, length-drop}
+use Rattle.std.proofs.Common.{◌≡◌, ℕ, zero, suc, ◌+◌, ◌-◌, ◌≤◌, Bool, cond, ltb, one-add, List, [], ◌∷◌, length, get_or, Option, Some, None, option_map, refl, ap, sym, ◌∙◌, arith, ◌*◌, ◌/◌, Vec, Global, vec_len, ◌<◌, ◌++◌, take, unwrap_or, sum_by, length-append, add-zero, is_some, drop, All, find, flat_map, position, le-ltb, lt-ltb, length-drop}
 use Rattle.std.specs.List.{IsDistinct}
-use Rattle.std.proofs.lemmas.Bool.{and_from, and_parts, cases_Bool, cases_lt, cond-false, cond-true}
+use Rattle.std.proofs.lemmas.Bool.{cases_Bool, cases_lt, cond-false, cond-true}
 use Rattle.std.proofs.lemmas.Bool.Decides.{leb_tells}
 use Rattle.std.proofs.lemmas.List.{get_or-map, get_or_default, length-map}
 use Rattle.std.proofs.lemmas.List.Elements.{All-cons, All-nil}
@@ -13,15 +13,11 @@ use Rattle.std.proofs.lemmas.Option.{slice_get-get_or, slice_get_past}
 use Rattle.rdlpp_table.specs.Entries.{AreWithin, offsets_len}
 use Rattle.rdlpp_table.specs.PointCache.{cached_points}
 use Rattle.rdlpp_table.specs.Layout.{IsHeld, view_of}
-use Rattle.rdlpp_table.specs.Limits.{AreInRange, IsWithin, is_within, limit_fault}
 use Rattle.rdlpp_table.specs.FormalOffsets.{halves, has_offsets, macro_offsets, offsets_of, starts_of, table_offsets}
-use Rattle.rdlpp_table.specs.Store.{IsStored, body_start, entries_of, entry_end, entry_of, list_start, macro_in, macros_in}
+use Rattle.rdlpp_table.specs.Store.{IsStored, body_start, entries_of, entry_end, entry_of, list_start, macro_in, macros_in, macro_bytes, table_bytes}
 use Rattle.rdlpp_define.specs.Macros.{list_size, Formal, Macro, formal_bytes, formal_size, macro_size, formals_of}
-use Rattle.rdlpp_table.specs.Table.{macro_bytes, macro_named, table_bytes, table_size}
-use Rattle.rdlpp_table.specs.View.{TableView, macro_at, no_macro, place_named}
+use Rattle.rdlpp_define.specs.Table.{macro_named, table_size, TableView, macro_at, no_macro, place_named}
 use Rattle.rdlpp_table.specs.declared.entry.Entry.{Entry}
-use Rattle.rdlpp_table.specs.declared.limits.LimitFault.{LimitFault}
-use Rattle.rdlpp_table.specs.declared.limits.Limits.{Limits}
 
 -- Places in a list.
 
@@ -212,30 +208,3 @@ some_map f (Some x) = refl
 
 pub is_named : (ms : List Macro) (name : List ℕ) (r : Option ℕ) → r ≡ place_named ms name → is_some r ≡ is_some (macro_named ms name)
 is_named ms name r e = some_map (macro_at ms) r ∙ ap is_some (sym (named_at ms name r e))
-
--- Limits without a fault are in their ranges, and the other way round.
-
-within_true : (low high n : ℕ) → is_within low high n ≡ true → IsWithin low high n
-unfolding is_within
-within_true low high n e = let p = and_parts (leb low n) (leb n high) e in (leb-true _ _ p.0, leb-true _ _ p.1)
-
-true_within : (low high n : ℕ) → IsWithin low high n → is_within low high n ≡ true
-unfolding is_within
-true_within low high n h = and_from _ _ (le-leb _ _ h.0) (le-leb _ _ h.1)
-
--- a test that isn't refused holds
-one_test : (c : Bool) (x : Option LimitFault) (f : LimitFault) → cond c x (Some f) ≡ None → (c ≡ true) × (x ≡ None)
-one_test true x f e = (refl, e)
-one_test false x f e = absurd (cc)
-
-pub in_range : (l : Limits) → limit_fault l ≡ None → AreInRange l
-unfolding limit_fault
-in_range l e = grind (arith, one_test, within_true)
-
-pub no_fault : (l : Limits) → AreInRange l → limit_fault l ≡ None
-unfolding limit_fault
-no_fault l r = grind (arith, cond-true, true_within)
-
-pub fault_out_of_range : (l : Limits) (f : LimitFault) (r : Option LimitFault) → r ≡ limit_fault l → r ≡ Some f → AreInRange l → ⊥
-fault_out_of_range l f r e g h =
-    let same : (let n : Option LimitFault = None in n) ≡ Some f = sym (no_fault l h) ∙ (sym e ∙ g) in cc

@@ -10,11 +10,10 @@ use Rattle.std.proofs.lemmas.List.Folds.{list_all-append}
 use Rattle.std.proofs.lemmas.List.Elements.{All-cons, All-nil}
 use Rattle.rdlpp_table.specs.Index.{names_of}
 use Rattle.rdlpp_define.specs.Macros.{Macro, macro_size, list_size}
-use Rattle.rdlpp_table.specs.Table.{table_size, without, macro_bytes, table_bytes}
-use Rattle.rdlpp_table.specs.View.{place_named, macro_at, no_macro}
+use Rattle.rdlpp_define.specs.Table.{table_size, without, place_named, macro_at, no_macro}
+use Rattle.rdlpp_table.specs.Store.{macro_bytes, table_bytes, entry_of, entries_of, entry_end, body_start, list_start, macros_in, IsStored}
 use Rattle.rdlpp_table.proofs.Sizes.{table_size-cons, stored_within, length_macro_bytes, length_table_bytes, length_offsets-cons, offsets_len_of, no_offsets, few_offsets, few_offsets_in, length_macros_in, entry_of_macro}
 use Rattle.rdlpp_table.specs.declared.entry.Entry.{Entry}
-use Rattle.rdlpp_table.specs.Store.{entry_of, entries_of, entry_end, body_start, list_start, macros_in, IsStored}
 use Rattle.rdlpp_define.specs.Plain.{is_plain_macro}
 use Rattle.rdlpp_table.specs.FormalOffsets.{macro_offsets, table_offsets}
 use Rattle.rdlpp_table.specs.Entries.{offsets_len, moved_down, moved_up, AreAfter, AreLow}

@@ -8,7 +8,7 @@ use Rattle.rdlpp_scan.specs.Tokens.{tokens_from}
 use Rattle.rdlpp_table.specs.declared.point.ExpansionPoint.{ExpansionPoint}
 use Rattle.rdlpp_table.specs.declared.point.ExpansionPoint.TheVariants as point
 use Rattle.rdlpp_define.specs.Macros.{Formal, Macro, formals_of}
-use Rattle.rdlpp_table.specs.View.{formal_named}
+use Rattle.rdlpp_define.specs.Table.{formal_named}
 
 -- what a name at a place is, of which the place among the formals is known: one that is copied, or a formal (this project's profile)
 unfoldable pub point_name : ℕ → ℕ → Option ℕ → ExpansionPoint

@@ -1,7 +1,7 @@
 -- The fields of a table, and the table that they stand for.
 -- A definition that names no source is this project's own.
 use Rattle.std.specs.Prelude.{◌≡◌, ℕ, ◌*◌, ◌/◌, ◌≤◌, List, vec_capacity, vec_len}
-use Rattle.rdlpp_table.specs.View.{TableView, IsSound}
+use Rattle.rdlpp_define.specs.Table.{TableView, IsSound}
 use Rattle.rdlpp_table.specs.FormalOffsets.{table_offsets}
 use Rattle.rdlpp_table.specs.Index.{IsIndexed, names_of}
 use Rattle.rdlpp_table.specs.Store.{IsStored, live, macros_in}

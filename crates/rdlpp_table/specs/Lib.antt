@@ -1,11 +1,7 @@
-pub mod Table
-pub mod View
 pub mod ExpansionPoints
 pub mod Shapes
 pub mod PointCache
-pub mod Limits
 pub mod FormalOffsets
-pub mod Stored
 pub mod Store
 pub mod Entries
 pub mod Index

@@ -2,7 +2,7 @@
 -- A definition that names no source is this project's own.
 use Rattle.std.specs.Prelude.{◌≡◌, ◌+◌, ◌-◌, ◌*◌, ◌%◌, ℕ, Bool, true, List, [], ◌∷◌, is_some, length, slice_index, slice_index_or, slice_set}
 use Rattle.rdlpp_define.specs.Macros.{Formal}
-use Rattle.rdlpp_table.specs.View.{formal_named}
+use Rattle.rdlpp_define.specs.Table.{formal_named}
 
 -- the shape of a name: the low bits of its first byte, and of its last byte and its length together
 unfoldable pub shape : List ℕ → ℕ

@@ -2,14 +2,21 @@
 -- A definition that names no source is this project's own.
 use Rattle.rdlpp_define.specs.Plain.{is_name_byte, is_plain_formal, is_plain_macro}
 use Rattle.rdlpp_define.specs.Macros.{list_size, Formal, Macro, macro_size, formal_bytes, formals_of}
-use Rattle.std.specs.Prelude.{◌≡◌, ℕ, zero, suc, ◌+◌, ◌-◌, ◌≤◌, true, ◌==◌, List, [], ◌∷◌, length, take, drop, map, slice_index, slice_range, Some, option_map, if◌then◌else◌}
+use Rattle.std.specs.Prelude.{◌≡◌, ℕ, zero, suc, ◌+◌, ◌-◌, ◌≤◌, true, ◌==◌, List, [], ◌∷◌, ◌++◌, length, take, drop, map, slice_index, slice_range, Some, option_map, unwrap_or, if◌then◌else◌}
 use Rattle.std.specs.List.{flat_map, prefix_len, list_all}
 use Rattle.rdlpp_scan.specs.KeptText.{cleared, text_after}
-use Rattle.rdlpp_table.specs.Table.{table_bytes}
 use Rattle.rdlpp_table.specs.FormalOffsets.{macro_offsets, offsets_of}
 use Rattle.rdlpp_table.specs.PointCache.{cached_points}
 use Rattle.rdlpp_table.specs.declared.point_cache.PointCache.{PointCache}
 use Rattle.rdlpp_table.specs.declared.entry.Entry.{Entry}
+
+-- a macro in a table's bytes: its name, its formals, its body
+unfoldable pub macro_bytes : Macro → List ℕ
+macro_bytes m = m.name ++ (flat_map formal_bytes (unwrap_or m.formals []) ++ m.body)
+
+-- a table's bytes, oldest macro first (this project's profile)
+unfoldable pub table_bytes : List Macro → List ℕ
+table_bytes macros = flat_map macro_bytes macros
 
 -- the entry of a macro whose bytes begin at a place, and its offsets at another one
 unfoldable pub entry_of : ℕ → ℕ → Macro → Entry

@@ -12,7 +12,7 @@ ghost use Rattle.rdlpp_table.specs.IndexView.{empty_index, places_in, places_roo
 ghost use Rattle.rdlpp_table.specs.Store.{formals_read, live, macros_in, IsStored};
 ghost use Rattle.rdlpp_define.specs.Plain.{is_plain_formal};
 ghost use Rattle.rdlpp_define.specs.Macros.{formal_bytes};
-ghost use Rattle.rdlpp_table.specs.View.{place_named};
+ghost use Rattle.rdlpp_define.specs.Table.{place_named};
 
 use crate::buckets::{BucketStarts, GROUP, bucket_of, move_down, move_up};
 use crate::entry::{Entry, name_in};

@@ -1,4 +1,4 @@
-//! The macro table: limits, and a counted store of definitions.
+//! The macro table: a counted store of definitions, from a source or from outside.
 #![tactic(auto)]
 
 mod buckets;
@@ -6,7 +6,6 @@ mod entry;
 mod fault;
 mod given_up;
 mod index;
-mod limits;
 mod lookup;
 mod offsets;
 mod point;
@@ -17,7 +16,6 @@ mod storing;
 mod table;
 
 pub use fault::NoMemory;
-pub use limits::{LimitFault, Limits};
 pub use lookup::Steps;
 pub use point::ExpansionPoint;
 pub use table::{MacroId, Table};

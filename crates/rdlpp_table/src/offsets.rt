@@ -6,7 +6,7 @@ ghost use Rattle.rdlpp_table.specs.Shapes.{shapes_of};
 ghost use Rattle.rdlpp_table.specs.Store.{formal_read, formals_read, AreStoredFormals};
 ghost use Rattle.rdlpp_define.specs.Plain.{is_name_byte, is_plain_formal};
 ghost use Rattle.rdlpp_define.specs.Macros.{formal_bytes};
-ghost use Rattle.rdlpp_table.specs.View.{formal_at, formal_named};
+ghost use Rattle.rdlpp_define.specs.Table.{formal_at, formal_named};
 
 use crate::stored::{
     SHAPES, after_formal, default_in_list, formal_name, name_len, place_in_list, shape,

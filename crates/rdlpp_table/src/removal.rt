@@ -1,6 +1,6 @@
 // A definition is taken out of a table's lists, which close up or give up their front.
 ghost use Rattle.std.specs.Prelude.{◌≡◌, ◌+◌, ◌-◌, ◌<◌, ◌≤◌, ◌++◌, ◌^◌, drop, length, map, remove, slice_range, take, vec_len, vec_capacity, bytes_eq};
-ghost use Rattle.rdlpp_table.specs.Table.{without};
+ghost use Rattle.rdlpp_define.specs.Table.{without};
 ghost use Rattle.std.specs.List.{remove_range, IsDistinct};
 ghost use Rattle.rdlpp_table.specs.Entries.{moved_down, moved_up, AreAfter, AreLow};
 ghost use Rattle.rdlpp_table.specs.Index.{bucket_of, names_of, IsFound, IsGap, IsIndexed};

@@ -4,7 +4,7 @@ ghost use Rattle.std.specs.List.{prefix_len};
 ghost use Rattle.rdlpp_table.specs.Shapes.{shape};
 ghost use Rattle.rdlpp_table.specs.Store.{formal_read, formals_read};
 ghost use Rattle.rdlpp_define.specs.Plain.{is_name_byte};
-ghost use Rattle.rdlpp_table.specs.View.{formal_at, formal_named};
+ghost use Rattle.rdlpp_define.specs.Table.{formal_at, formal_named};
 
 use rdlpp_scan::{after_default, byte_at};
 

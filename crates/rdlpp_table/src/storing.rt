@@ -22,7 +22,7 @@ ghost use Rattle.std.specs.List.{IsDistinct};
 ghost use Rattle.rdlpp_table.specs.Index.{bucket_of, names_of, IsFound, IsIndexed};
 ghost use Rattle.rdlpp_table.specs.FormalOffsets.{table_offsets};
 ghost use Rattle.rdlpp_table.specs.Store.{live, macros_in, IsStored};
-ghost use Rattle.rdlpp_table.specs.Table.{table_size, without};
+ghost use Rattle.rdlpp_define.specs.Table.{table_size, without};
 ghost use Rattle.rdlpp_define.specs.Macros.{list_size, macro_size};
 
 use crate::entry::Entry;

@@ -1,14 +1,13 @@
 // The table of macros: a list of bytes, one of entries and an index by name, all reserved when the table is made.
 ghost use Rattle.std.specs.Prelude.{◌≡◌, ◌≢◌, ◌<◌, ◌≤◌, ◌==◌, [], length, IfOk, IfSome, IfNone, Some, None, is_some, option_map, OnErr, ◌+◌};
 ghost use Rattle.rdlpp_table.specs.Index.{IsCounted};
-ghost use Rattle.rdlpp_table.specs.Limits.{AreInRange};
+ghost use Rattle.rdlpp_define.specs.Limits.{AreInRange};
 ghost use Rattle.rdlpp_table.specs.ExpansionPoints.{point_in};
-ghost use Rattle.rdlpp_table.specs.Table.{macro_named, table_bytes, without};
+ghost use Rattle.rdlpp_define.specs.Table.{macro_named, without, TableView, IsSound, formal_at, formal_named, macro_at, place_named};
+ghost use Rattle.rdlpp_table.specs.Store.{table_bytes, entry_end, formals_read, macro_in, AreStoredFormals};
 ghost use Rattle.rdlpp_scan.specs.SourceTokens.{logical_len};
-ghost use Rattle.rdlpp_table.specs.Stored.{define_of, observed, set_of, stored};
+ghost use Rattle.rdlpp_define.specs.Defined.{define_of, observed, set_of, stored};
 ghost use Rattle.rdlpp_table.specs.PointCache.{cached_points};
-ghost use Rattle.rdlpp_table.specs.Store.{entry_end, formals_read, macro_in, AreStoredFormals};
-ghost use Rattle.rdlpp_table.specs.View.{TableView, IsSound, formal_at, formal_named, macro_at, place_named};
 ghost use Rattle.rdlpp_define.specs.Macros.{formals_of};
 
 use crate::buckets::bucket_of;
@@ -16,14 +15,13 @@ use crate::entry::{Entry, arity_in, body_in, listed_in, name_in};
 use crate::fault::NoMemory;
 use crate::given_up::{GivenUp, NOTHING, live};
 use crate::index::{Index, place_in, seek_named};
-use crate::limits::Limits;
 use crate::lookup::Steps;
 use crate::offsets::{LONG_FORMAL, StoredFormals, default_of, place_of};
 use crate::point::{ExpansionPoint, next_expansion_point};
 use crate::point_cache::cached_point;
 use crate::removal::remove_named;
 use crate::storing::{replace, usage_without};
-use rdlpp_define::{DefineFault, DefineKind, NewMacro, read_define, read_named, refusal};
+use rdlpp_define::{DefineFault, DefineKind, Limits, NewMacro, read_define, read_named, refusal};
 use std::alloc::Global;
 use std::marker::Model;
 
@@ -42,7 +40,7 @@ pub struct Table {
 }
 
 impl Model for Table {
-    ghost use Rattle.rdlpp_table.specs.View.{TableView};
+    ghost use Rattle.rdlpp_define.specs.Table.{TableView};
 
     ghost Value = { TableView };
 
@@ -352,12 +350,8 @@ impl Table {
     /// its `//` comments, and then the blanks at both ends.
     ///
     /// # Errors
-    /// The first fault of the definition, and the table is unchanged then: of its name (`NameExpected`,
-    /// `ReservedName` with that name, `NameTooLong` past 128 bytes); of its formals from left to right (`BadFormals`,
-    /// `NameTooLong`, `FormalTwice`, `TooManyFormals` past 255, which are this project's bounds, and `BadFormals` for a
-    /// default text with `<%` outside comments, or without an end); of its body
-    /// (`EmbeddedPerl`, `OpenString`, `OpenComment`); of the room in the table without the old macro of that name
-    /// (`DefinitionBytes`, `TooManyDefinitions`).
+    /// Those of `rdlpp_define::read_define`, and behind them `DefinitionBytes` or `TooManyDefinitions` where the table
+    /// hasn't room for it without the old macro of that name. The table is unchanged then.
     #[inline(never)]
     pub fn read_define(&mut self, rest: &[u8]) -> Result<(), DefineFault>
         requires line { IfSome (logical_len 0 0 rest.now) (λ n. n ≡ length rest.now) }
@@ -375,8 +369,8 @@ impl Table {
     /// its `//` comments and the blanks at both ends go.
     ///
     /// # Errors
-    /// The first fault: of the name, which has to be one name as a whole, of the body, or of the room in the table.
-    /// The table is unchanged then.
+    /// Those of `rdlpp_define::read_named`, and behind them `DefinitionBytes` or `TooManyDefinitions` where the table
+    /// hasn't room for it without the old macro of that name. The table is unchanged then.
     #[inline(never)]
     pub fn set(&mut self, name: &[u8], text: &[u8]) -> Result<(), DefineFault>
         ensures outcome { observed result self.new.macros ≡ set_of self.old.most_bytes self.old.most_macros self.old.macros name.now text.now }

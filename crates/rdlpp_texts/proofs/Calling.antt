@@ -9,8 +9,7 @@ use Rattle.rdlpp_scan.specs.declared.token.Kind.TheVariants.{Back}
 use Rattle.rdlpp_scan.specs.declared.token.Mode.{Mode}
 use Rattle.rdlpp_scan.specs.declared.token.Mode.TheVariants.{Plain}
 use Rattle.rdlpp_define.specs.Macros.{Formal, Macro, formals_of}
-use Rattle.rdlpp_table.specs.Table.{macro_named}
-use Rattle.rdlpp_table.specs.View.{IsSound, TableView, macro_at}
+use Rattle.rdlpp_define.specs.Table.{macro_named, IsSound, TableView, macro_at}
 use Rattle.rdlpp_meaning.specs.Actuals.{Bound, CallBreakFault, Call, CallFault, Reads, actual_of, kept, map_call, source_reads, text_reads, token_role, trimmed}
 use Rattle.rdlpp_meaning.specs.CallScan.{all_parts, call_of, call_of_scan, is_kept, split}
 use Rattle.rdlpp_meaning.specs.Expansion.{Opens, UsageFault, Usage, bound_parts, bytes_of, is_count, usage_of, usage_of_call, usage_of_formals, usage_of_macro, usage_token}

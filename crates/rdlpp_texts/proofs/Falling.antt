@@ -7,8 +7,7 @@ use Rattle.rdlpp_scan.specs.Tokens.{token_of}
 use Rattle.rdlpp_scan.specs.declared.token.Mode.TheVariants.{Plain}
 use Rattle.rdlpp_scan.proofs.TokenLens.{token_of-part}
 use Rattle.rdlpp_define.specs.Macros.{Formal, Macro, formal_size, macro_size, formals_of}
-use Rattle.rdlpp_table.specs.Table.{table_size}
-use Rattle.rdlpp_table.specs.View.{formal_at, macro_at}
+use Rattle.rdlpp_define.specs.Table.{table_size, formal_at, macro_at}
 use Rattle.rdlpp_define.proofs.Sizes.{default_least}
 use Rattle.rdlpp_meaning.specs.Opens.{Open, OpenActual, OpenBody, OpenDefault, OpenKind, Texts, found_standing, open_body, open_bytes, own_text, scope_open, scope_text, text_around}
 use Rattle.rdlpp_texts.specs.BoundCalls.{IsBoundCall, range_part}

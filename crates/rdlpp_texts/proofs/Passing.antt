@@ -15,7 +15,7 @@ use Rattle.rdlpp_scan.proofs.StopKinds.{closed_kind_plain}
 use Rattle.rdlpp_scan.proofs.TokenLens.{token_of-part, tokens_from-step}
 use Rattle.rdlpp_table.specs.ExpansionPoints.{is_none, point_at, point_name}
 use Rattle.rdlpp_define.specs.Macros.{Formal, formals_of}
-use Rattle.rdlpp_table.specs.View.{IsSound, TableView, formal_at, formal_named, macro_at}
+use Rattle.rdlpp_define.specs.Table.{IsSound, TableView, formal_at, formal_named, macro_at}
 use Rattle.rdlpp_meaning.specs.Actuals.{token_role}
 use Rattle.rdlpp_meaning.specs.CallScan.{is_kept}
 use Rattle.rdlpp_meaning.specs.Expansion.{is_copied}

@@ -5,7 +5,7 @@ use Rattle.std.proofs.lemmas.Bool.{eqb-false}
 use Rattle.std.proofs.lemmas.List.{length-map, get_or-map}
 use Rattle.rdlpp_scan.specs.declared.token.Mode.TheVariants.{Plain}
 use Rattle.rdlpp_define.specs.Macros.{Formal, Macro, formals_of}
-use Rattle.rdlpp_table.specs.View.{macro_at, formal_at}
+use Rattle.rdlpp_define.specs.Table.{macro_at, formal_at}
 use Rattle.rdlpp_meaning.specs.Opens.{Part, part_at, OpenActual, OpenDefault, Open, Texts, own_text, scope_text, text_around, open_standing, open_scope, scope_open, kind_standing, found_standing, found_formals, scope_formals}
 use Rattle.rdlpp_meaning.proofs.OpenScopes.{not_next, next_is}
 use Rattle.rdlpp_texts.specs.BoundCalls.{range_part}

@@ -8,7 +8,7 @@ use Rattle.std.proofs.lemmas.List.{drop-set, drop_all, drop_more, length-map, ta
 use Rattle.std.proofs.lemmas.List.Elements.{recursion_from_All}
 use Rattle.rdlpp_scan.specs.declared.token.Mode.TheVariants.{Plain}
 use Rattle.rdlpp_define.specs.Macros.{Formal, Macro, IsSoundMacro, formals_of}
-use Rattle.rdlpp_table.specs.View.{IsSound, TableView, macro_at, no_macro}
+use Rattle.rdlpp_define.specs.Table.{IsSound, TableView, macro_at, no_macro}
 use Rattle.rdlpp_define.proofs.Sizes.{count_items}
 use Rattle.rdlpp_meaning.specs.Opens.{Open, OpenBody, open_body}
 use Rattle.rdlpp_meaning.specs.declared.fault.FaultKind.{FaultKind}

@@ -12,7 +12,7 @@ use Rattle.rdlpp_scan.proofs.RangeLaws.{tokens_from-first}
 use Rattle.rdlpp_scan.proofs.TokenLens.{token_of-part, tokens_from-step}
 use Rattle.rdlpp_table.specs.ExpansionPoints.{next_expansion_point, is_none, or_point, point_at, point_in, point_name, point_of}
 use Rattle.rdlpp_define.specs.Macros.{Formal}
-use Rattle.rdlpp_table.specs.View.{formal_named, macro_at}
+use Rattle.rdlpp_define.specs.Table.{formal_named, macro_at}
 use Rattle.rdlpp_table.specs.declared.point.ExpansionPoint.{ExpansionPoint}
 use Rattle.rdlpp_table.specs.declared.point.ExpansionPoint.TheVariants as point
 use Rattle.rdlpp_table.proofs.FirstPoints.{or_none, or_some, token_passed}

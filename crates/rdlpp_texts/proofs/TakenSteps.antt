@@ -11,7 +11,7 @@ use Rattle.rdlpp_scan.specs.declared.token.Mode.TheVariants.{Plain}
 use Rattle.rdlpp_scan.specs.declared.token.Token.{Token}
 use Rattle.rdlpp_scan.proofs.TokenLens.{list_all-prefix}
 use Rattle.rdlpp_scan.proofs.StopKinds.{AtBack, AtBare, AtBlockComment, AtLineComment, AtPerl, AtPlain, AtString, Row, token_of-row}
-use Rattle.rdlpp_table.specs.View.{IsSound, TableView, formal_at, macro_at}
+use Rattle.rdlpp_define.specs.Table.{IsSound, TableView, formal_at, macro_at}
 use Rattle.rdlpp_define.specs.Macros.{formals_of}
 use Rattle.rdlpp_meaning.specs.Opens.{Open, OpenActual, OpenBody, OpenDefault, OpenKind, Part, Texts, found_standing, kind_standing, open_bytes, open_standing, own_text, part_at, part_tokens, scope_open, scope_text, text_around}
 use Rattle.rdlpp_meaning.specs.declared.fault.FaultKind.{FaultKind}

@@ -13,8 +13,7 @@ use Rattle.rdlpp_scan.specs.declared.token.Kind.TheVariants.{Back}
 use Rattle.rdlpp_scan.specs.declared.token.Mode.TheVariants.{Plain}
 use Rattle.rdlpp_scan.proofs.TokenLens.{token_of-part}
 use Rattle.rdlpp_define.specs.Macros.{Formal, Macro, IsSoundMacro}
-use Rattle.rdlpp_table.specs.Table.{macro_named}
-use Rattle.rdlpp_table.specs.View.{IsSound, TableView, macro_at, no_macro, place_named}
+use Rattle.rdlpp_define.specs.Table.{macro_named, IsSound, TableView, macro_at, no_macro, place_named}
 use Rattle.rdlpp_table.proofs.Orders.{place_of_name}
 use Rattle.rdlpp_meaning.specs.Actuals.{Reads, text_reads}
 use Rattle.rdlpp_meaning.specs.Expansion.{Opens, UsageFault, usage_of, usage_of_formals, usage_of_macro}

@@ -3,7 +3,7 @@
 use Rattle.rdlpp_meaning.specs.Expansion.{is_count, bound_parts}
 use Rattle.std.specs.Prelude.{◌≡◌, ℕ, ◌<◌, ◌≤◌, true, false, List, [], ◌∷◌, map, length, Ok, Err}
 use Rattle.rdlpp_define.specs.Macros.{Macro, formals_of}
-use Rattle.rdlpp_table.specs.View.{macro_at}
+use Rattle.rdlpp_define.specs.Table.{macro_at}
 use Rattle.rdlpp_meaning.specs.declared.fault.FaultKind.{FaultKind}
 use Rattle.rdlpp_meaning.specs.declared.fault.FaultKind.TheVariants.{ArgumentCount}
 use Rattle.rdlpp_meaning.specs.Opens.{Texts, open_body}

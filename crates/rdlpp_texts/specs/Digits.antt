@@ -1,7 +1,7 @@
 -- The work left of open texts, as digits.
 -- A definition that names no source is this project's own.
 use Rattle.std.specs.Prelude.{◌≡◌, ℕ, ◌+◌, ◌-◌, ◌<◌, ◌≤◌, ◌⊎◌, List, [], ◌∷◌, map, reverse, length}
-use Rattle.rdlpp_table.specs.Table.{table_size}
+use Rattle.rdlpp_define.specs.Table.{table_size}
 use Rattle.rdlpp_meaning.specs.Opens.{Open, Texts}
 use Rattle.rdlpp_texts.specs.declared.step.CursorStep.{CursorStep}
 use Rattle.rdlpp_texts.specs.declared.step.CursorStep.TheVariants.{Lends, Silent, Refused}

@@ -2,7 +2,7 @@
 -- A definition that names no source is this project's own.
 use Rattle.std.specs.Prelude.{ℕ, ◌<◌, ◌≤◌, List, [], length, slice_range}
 use Rattle.rdlpp_define.specs.Macros.{Formal, Macro, formals_of}
-use Rattle.rdlpp_table.specs.View.{macro_at, formal_at}
+use Rattle.rdlpp_define.specs.Table.{macro_at, formal_at}
 use Rattle.rdlpp_meaning.specs.Opens.{Texts}
 use Rattle.rdlpp_texts.specs.declared.place.TextPlace.{TextPlace}
 use Rattle.rdlpp_texts.specs.declared.place.TextSource.{TextSource}

@@ -2,7 +2,7 @@
 -- A definition that names no source is this project's own.
 use Rattle.std.specs.Prelude.{ℕ, suc, ◌<◌, ◌≤◌, ◌==◌, min, List, [], ◌∷◌, length, Option, None, Some, if◌then◌else◌}
 use Rattle.rdlpp_define.specs.Macros.{Macro, formals_of}
-use Rattle.rdlpp_table.specs.View.{macro_at}
+use Rattle.rdlpp_define.specs.Table.{macro_at}
 use Rattle.rdlpp_meaning.specs.Opens.{OpenKind, OpenBody, OpenActual, OpenDefault, Open, open_scope, scope_open}
 use Rattle.rdlpp_texts.specs.declared.place.TextPlace.{TextPlace}
 use Rattle.rdlpp_texts.specs.declared.place.TextSource.{TextSource}

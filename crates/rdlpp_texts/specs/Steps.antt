@@ -5,7 +5,7 @@ use Rattle.std.specs.List.{AllByRecursion, list_all}
 use Rattle.rdlpp_scan.specs.Bytes.{is_word}
 use Rattle.rdlpp_scan.specs.declared.token.Mode.TheVariants.{Plain}
 use Rattle.rdlpp_define.specs.Macros.{Macro, formals_of}
-use Rattle.rdlpp_table.specs.View.{macro_at}
+use Rattle.rdlpp_define.specs.Table.{macro_at}
 use Rattle.rdlpp_meaning.specs.declared.fault.FaultKind.{FaultKind}
 use Rattle.rdlpp_meaning.specs.Outcome.{gives, fails, and_then}
 use Rattle.rdlpp_meaning.specs.State.{Rules, State, fault_at}

@@ -7,7 +7,7 @@ use Rattle.rdlpp_scan.specs.declared.token.Mode.TheVariants.{Plain}
 use Rattle.rdlpp_scan.specs.declared.token.Token.{Token}
 use Rattle.rdlpp_scan.specs.Tokens.{token_of, tokens_from}
 use Rattle.rdlpp_define.specs.Macros.{Formal}
-use Rattle.rdlpp_table.specs.View.{formal_named}
+use Rattle.rdlpp_define.specs.Table.{formal_named}
 use Rattle.rdlpp_table.specs.ExpansionPoints.{is_none, point_at}
 use Rattle.rdlpp_meaning.specs.Opens.{Open, Texts, open_bytes}
 use Rattle.rdlpp_texts.specs.Places.{source_formals}

@@ -2,7 +2,7 @@
 -- A definition that names no source is this project's own.
 use Rattle.std.specs.Prelude.{◌≡◌, ℕ, ◌+◌, true, List, [], ◌∷◌, length, drop, Some}
 use Rattle.rdlpp_define.specs.Macros.{formals_of}
-use Rattle.rdlpp_table.specs.View.{macro_at}
+use Rattle.rdlpp_define.specs.Table.{macro_at}
 use Rattle.rdlpp_meaning.specs.Opens.{Open, Part, Texts, found_standing, open_body, open_bytes, scope_open}
 use Rattle.rdlpp_texts.specs.TextItems.{IsTextItem}
 use Rattle.rdlpp_texts.specs.Opened.{is_spent, moved_to}

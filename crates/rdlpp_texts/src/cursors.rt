@@ -1,7 +1,7 @@
 // The stack of open texts.
 ghost use Rattle.std.specs.Prelude.{[], length, true, IfOk, List, None, ℕ, ◌==◌, ◌<◌, ◌≡◌, ◌≤◌, ◌∷◌, ◌^◌, ◌+◌, ◌*◌, drop, nat_le};
 ghost use Rattle.std.specs.Option.{option_map};
-ghost use Rattle.rdlpp_table.specs.View.{macro_at};
+ghost use Rattle.rdlpp_define.specs.Table.{macro_at};
 ghost use Rattle.rdlpp_meaning.specs.Opens.{open_body, Texts};
 ghost use Rattle.rdlpp_texts.specs.TextItems.{IsPeekAhead};
 ghost use Rattle.rdlpp_texts.specs.Opened.{bound_by, is_spent, kept_by, moved_to, open_of, IsNoBody, StaysOutermost};

@@ -1,8 +1,7 @@
 // Where the macros of names were found last.
 ghost use Rattle.std.specs.Prelude.{length, min, slice_index, IfSome, ◌<◌, ◌≡◌};
 ghost use Rattle.std.specs.Option.{option_map};
-ghost use Rattle.rdlpp_table.specs.Table.{macro_named};
-ghost use Rattle.rdlpp_table.specs.View.{macro_at, place_named, IsSound};
+ghost use Rattle.rdlpp_define.specs.Table.{macro_named, macro_at, place_named, IsSound};
 ghost use Rattle.rdlpp_texts.specs.LookupHints.{key_of};
 
 use rdlpp_table::{MacroId, Table};

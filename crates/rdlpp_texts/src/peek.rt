@@ -3,7 +3,7 @@ ghost use Rattle.std.specs.Prelude.{[], length, slice_range, List, ℕ, ◌+◌,
 ghost use Rattle.rdlpp_scan.specs.Tokens.{tokens_from};
 ghost use Rattle.rdlpp_table.specs.ExpansionPoints.{point_in, point_of};
 ghost use Rattle.rdlpp_define.specs.Macros.{Formal};
-ghost use Rattle.rdlpp_table.specs.View.{macro_at};
+ghost use Rattle.rdlpp_define.specs.Table.{macro_at};
 ghost use Rattle.rdlpp_texts.specs.TextItems.{run_len, IsNextItem, IsTextItem, IsPeekAhead};
 ghost use Rattle.rdlpp_texts.specs.Opened.{opens_of};
 ghost use Rattle.rdlpp_texts.specs.Places.{source_formals, source_text, texts_of, IsSource};

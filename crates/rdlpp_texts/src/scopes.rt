@@ -2,7 +2,7 @@
 ghost use Rattle.std.specs.Prelude.{[], length, nat_le, slice_index_or, if◌then◌else◌, List, ◌+◌, ◌==◌, ◌<◌, ◌≡◌, ◌≤◌, ◌∷◌};
 ghost use Rattle.std.specs.List.{list_any, AllByRecursion};
 ghost use Rattle.std.specs.Option.{option_map};
-ghost use Rattle.rdlpp_table.specs.View.{formal_at, macro_at};
+ghost use Rattle.rdlpp_define.specs.Table.{formal_at, macro_at};
 ghost use Rattle.rdlpp_define.specs.Macros.{formals_of};
 ghost use Rattle.rdlpp_meaning.specs.Opens.{open_standing, part_at, Part, found_standing, scope_open};
 ghost use Rattle.rdlpp_texts.specs.Opened.{is_body_of, open_of, opens_of, outer_of, frame_source, AreBounded, AreParentedFrames, IsWithin};

@@ -7,8 +7,7 @@ use Rattle.rdlpp_scan.specs.Reserved.{is_reserved}
 use Rattle.rdlpp_scan.specs.SourceTokens.{SourceToken}
 use Rattle.rdlpp_scan.specs.declared.token.Mode.TheVariants.{Plain}
 use Rattle.rdlpp_define.specs.Macros.{Formal, Macro, formals_of}
-use Rattle.rdlpp_table.specs.Table.{macro_named}
-use Rattle.rdlpp_table.specs.View.{macro_at}
+use Rattle.rdlpp_define.specs.Table.{macro_named, macro_at}
 use Rattle.rdlpp_meaning.specs.Actuals.{kept, source_reads}
 use Rattle.rdlpp_meaning.specs.CallScan.{Before}
 use Rattle.rdlpp_meaning.specs.Expansion.{bound_parts, Opens, UsageFault, bytes_of, expand, usage_of, usage_of_formals, usage_of_macro, usage_token}

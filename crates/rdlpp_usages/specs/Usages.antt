@@ -3,8 +3,7 @@
 use Rattle.std.specs.Prelude.{◌≡◌, ℕ, ◌+◌, ◌*◌, ◌<◌, ◌≤◌, Bool, true, false, List, [], ◌∷◌, ◌++◌, ◌⊎◌, length, map, Option, None, Some, if◌then◌else◌, ◌^◌}
 use Rattle.rdlpp_scan.specs.declared.token.Mode.TheVariants.{Plain}
 use Rattle.rdlpp_define.specs.Macros.{Formal, Macro, formals_of}
-use Rattle.rdlpp_table.specs.Table.{macro_named}
-use Rattle.rdlpp_table.specs.View.{macro_at}
+use Rattle.rdlpp_define.specs.Table.{macro_named, macro_at}
 use Rattle.rdlpp_texts.specs.BoundCalls.{KeepsAll, actuals_of, range_part, ranges_tokens}
 use Rattle.rdlpp_texts.specs.SourceBound.{OpensBound}
 use Rattle.rdlpp_texts.specs.declared.bindings.Range.{Range}

@@ -2,7 +2,7 @@
 ghost use Rattle.std.specs.Prelude.{◌≡◌, ◌==◌, ◌||◌, IfOk};
 ghost use Rattle.std.specs.List.{before_first, after_first};
 ghost use Rattle.std.specs.Option.{is_some};
-ghost use Rattle.rdlpp_table.specs.Limits.{AreInRange};
+ghost use Rattle.rdlpp_define.specs.Limits.{AreInRange};
 ghost use Rattle.rdlpp_words.specs.declared.invocation.UsageFault.TheVariants.{NoMemory};
 
 use crate::command::{

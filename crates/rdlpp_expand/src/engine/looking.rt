@@ -10,8 +10,9 @@ ghost use Rattle.rdlpp_state.specs.Remaining.{inner_name, state_of};
 ghost use Rattle.rdlpp_expand.specs.Looking.{Includes};
 
 use super::Engine;
+use rdlpp_define::Limits;
 use rdlpp_source::Sources;
-use rdlpp_table::{Limits, Table};
+use rdlpp_table::Table;
 use rdlpp_texts::TextPlace;
 use std::mem;
 

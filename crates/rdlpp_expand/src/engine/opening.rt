@@ -1,6 +1,6 @@
 // How an engine is made, and how its main text is opened.
 ghost use Rattle.std.specs.Prelude.{◌≡◌, OnErr};
-ghost use Rattle.rdlpp_table.specs.Stored.{observed, set_of};
+ghost use Rattle.rdlpp_define.specs.Defined.{observed, set_of};
 ghost use Rattle.rdlpp_meaning.specs.Outcome.{report_of};
 ghost use Rattle.rdlpp_meaning.specs.Output.{name_cut, opening_fault};
 ghost use Rattle.rdlpp_state.specs.Held.{IsBounded};
@@ -9,12 +9,12 @@ ghost use Rattle.rdlpp_state.specs.Opening.{Makes, Starts, opened_engine, start_
 
 use super::Engine;
 use arrayvec::ArrayString;
-use rdlpp_define::DefineFault;
+use rdlpp_define::{DefineFault, Limits};
 use rdlpp_meaning::{Fault, FaultKind};
 use rdlpp_read::{Conditions, Files};
 use rdlpp_source::{Found, SourceFault, Sources};
 use rdlpp_state::{Marks, NewFault, Pending, Phase, copied_fault};
-use rdlpp_table::{Limits, Table};
+use rdlpp_table::Table;
 use rdlpp_usages::Expansion;
 use std::alloc::Global;
 

@@ -1,8 +1,7 @@
 // Usages of macros in the open sources.
 ghost use Rattle.std.specs.Prelude.{[], ◌≡◌, ◌<◌, ◌≤◌, ◌^◌, length, None, Some};
 ghost use Rattle.rdlpp_scan.specs.Names.{IsWordBytes};
-ghost use Rattle.rdlpp_table.specs.Table.{macro_named};
-ghost use Rattle.rdlpp_table.specs.View.{macro_at};
+ghost use Rattle.rdlpp_define.specs.Table.{macro_named, macro_at};
 ghost use Rattle.rdlpp_meaning.specs.State.{fault_at};
 ghost use Rattle.rdlpp_read.specs.Buffer.{held_of};
 ghost use Rattle.rdlpp_read.specs.Files.{inner_buffer};

@@ -1,6 +1,6 @@
 // Usages of macros with a list in an open text.
 ghost use Rattle.std.specs.Prelude.{[], IfErr, IfOk, is_some, length, slice_range, true, ◌<◌, ◌≡◌, ◌≤◌};
-ghost use Rattle.rdlpp_table.specs.View.{macro_at};
+ghost use Rattle.rdlpp_define.specs.Table.{macro_at};
 ghost use Rattle.rdlpp_meaning.specs.Substitution.{body_tokens};
 ghost use Rattle.rdlpp_texts.specs.BoundCalls.{KeepsAll};
 ghost use Rattle.rdlpp_texts.specs.Calls.{IsCallFault, IsCallMiscounted, IsCallStarted, IsOpening};

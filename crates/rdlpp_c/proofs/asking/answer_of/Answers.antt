@@ -1,5 +1,5 @@
 use Rattle.std.proofs.Common.{ap, sym, ◌∙◌}
-use Rattle.rdlpp_table.specs.Limits.{limit_fault}
+use Rattle.rdlpp_define.specs.Limits.{limit_fault}
 use Rattle.rdlpp_c.proofs.Outputs.{gives_refused, gives_stopped, gives_whole}
 use Rattle.rdlpp_c.proofs.asking.answer_of.Goals as goal
 

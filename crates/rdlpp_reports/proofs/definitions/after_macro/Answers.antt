@@ -1,7 +1,7 @@
 -- Behind its name, each of its formals, and its body.
 use Rattle.std.proofs.Common.{◌+◌, ◌++◌, drop, arith, ◌∙◌, flat_map}
 use Rattle.rdlpp_define.specs.Macros.{formal_bytes, formals_of}
-use Rattle.rdlpp_table.specs.View.{macro_at, no_formal}
+use Rattle.rdlpp_define.specs.Table.{macro_at, no_formal}
 use Rattle.rdlpp_reports.proofs.Written.{body_after, count_formals, formals_after, formals_end, formals_from}
 use Rattle.rdlpp_reports.proofs.definitions.after_macro.Goals as goal
 

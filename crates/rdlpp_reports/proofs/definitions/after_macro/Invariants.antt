@@ -1,8 +1,8 @@
 -- The formals from a place on are left, and the body.
 use Rattle.std.proofs.Common.{◌≡◌, ℕ, List, ◌++◌, drop, flat_map}
 use Rattle.rdlpp_define.specs.Macros.{formal_bytes, AreSoundFormals, formals_of}
-use Rattle.rdlpp_table.specs.Table.{macro_bytes}
-use Rattle.rdlpp_table.specs.View.{macro_at}
+use Rattle.rdlpp_table.specs.Store.{macro_bytes}
+use Rattle.rdlpp_define.specs.Table.{macro_at}
 use Rattle.rdlpp_reports.proofs.definitions.after_macro.Given as goal
 
 abbrev pub invariant-loop-place : goal.invariant-loop-place

@@ -3,7 +3,7 @@ use Rattle.std.proofs.Common.{arith, ap, sym, ◌∙◌, ◌≤◌, ◌==◌, fa
 use Rattle.std.specs.Option.{option_map_or}
 use Rattle.std.proofs.lemmas.List.{length-append}
 use Rattle.std.proofs.lemmas.List.Elements.{All-get_or}
-use Rattle.rdlpp_table.specs.View.{formal_at, formal_named, macro_at, no_formal}
+use Rattle.rdlpp_define.specs.Table.{formal_at, formal_named, macro_at, no_formal}
 use Rattle.rdlpp_define.specs.Macros.{formals_of}
 use Rattle.rdlpp_reports.proofs.Written.{after_name, formal_longer, found_name, name_in_front, second_holds}
 use Rattle.std.proofs.Common.{refl, slice_index}

@@ -2,7 +2,7 @@
 use Rattle.std.proofs.Common.{length, ◌<◌, ◌≤◌}
 use Rattle.rdlpp_reports.specs.Definitions.{BeginsWith}
 use Rattle.rdlpp_define.specs.Macros.{formal_bytes, AreSoundFormals, formals_of}
-use Rattle.rdlpp_table.specs.View.{formal_at, macro_at}
+use Rattle.rdlpp_define.specs.Table.{formal_at, macro_at}
 use Rattle.rdlpp_reports.proofs.definitions.formal_name.Given as goal
 
 abbrev pub invariant-loop-len : goal.invariant-loop-len

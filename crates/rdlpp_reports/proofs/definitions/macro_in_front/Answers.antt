@@ -1,6 +1,6 @@
 -- The name is found where it is looked up.
 use Rattle.std.proofs.Common.{arith, sym, ◌∙◌, length-append}
-use Rattle.rdlpp_table.specs.View.{no_macro}
+use Rattle.rdlpp_define.specs.Table.{no_macro}
 use Rattle.rdlpp_reports.proofs.Written.{found_at, is_longer}
 use Rattle.rdlpp_reports.proofs.definitions.macro_in_front.Goals as goal
 

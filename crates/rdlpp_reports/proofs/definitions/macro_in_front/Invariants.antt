@@ -1,7 +1,7 @@
 -- The name isn't shorter than what was looked up.
 use Rattle.std.proofs.Common.{length, ◌<◌, ◌≤◌}
 use Rattle.rdlpp_reports.specs.Definitions.{BeginsWith}
-use Rattle.rdlpp_table.specs.View.{IsSound, macro_at}
+use Rattle.rdlpp_define.specs.Table.{IsSound, macro_at}
 use Rattle.rdlpp_reports.proofs.definitions.macro_in_front.Given as goal
 
 abbrev pub invariant-loop-len : goal.invariant-loop-len

@@ -3,9 +3,9 @@ use Rattle.std.proofs.Common.{◌≡◌, ◌+◌, ◌<◌, ◌++◌, drop, lengt
 use Rattle.std.proofs.lemmas.List.Elements.{All-get_or}
 use Rattle.std.proofs.lemmas.Option.{none-some, same_Some}
 use Rattle.std.proofs.lemmas.Result.{err_from_is_err_and}
-use Rattle.rdlpp_table.specs.Table.{macro_bytes}
+use Rattle.rdlpp_table.specs.Store.{macro_bytes}
 use Rattle.rdlpp_define.specs.Macros.{IsSoundMacro}
-use Rattle.rdlpp_table.specs.View.{macro_at, no_macro}
+use Rattle.rdlpp_define.specs.Table.{macro_at, no_macro}
 use Rattle.rdlpp_reports.specs.Definitions.{definition_line}
 use Rattle.rdlpp_reports.proofs.Written.{flat-fails, flat-grows, macro_name, macros_from, writes_by}
 use Rattle.rdlpp_reports.proofs.definitions.write_definitions.Goals as goal

@@ -1,7 +1,7 @@
 -- The lines before a place were written, and the macros from it on are left.
 use Rattle.std.proofs.Common.{◌≡◌, drop, take, flat_map}
 use Rattle.std.specs.Io.KnownBytes.{Appends}
-use Rattle.rdlpp_table.specs.Table.{macro_bytes}
+use Rattle.rdlpp_table.specs.Store.{macro_bytes}
 use Rattle.rdlpp_reports.specs.Definitions.{definition_line}
 use Rattle.rdlpp_reports.proofs.definitions.write_definitions.Given as goal
 

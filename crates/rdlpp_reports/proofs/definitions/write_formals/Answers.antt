@@ -2,7 +2,7 @@
 use Rattle.std.proofs.Common.{◌+◌, ◌<◌, ◌++◌, [], drop, length, arith, refl, flat_map}
 use Rattle.std.proofs.lemmas.Result.{err_from_is_err_and}
 use Rattle.rdlpp_define.specs.Macros.{formal_bytes, formals_of}
-use Rattle.rdlpp_table.specs.View.{formal_at, macro_at, no_formal}
+use Rattle.rdlpp_define.specs.Table.{formal_at, macro_at, no_formal}
 use Rattle.rdlpp_reports.proofs.Written.{formal-fails, formal-grows, formals-end, formals_from, part_by, writes_by, writes_part, writes_whole}
 use Rattle.rdlpp_reports.proofs.definitions.write_formals.Goals as goal
 

@@ -1,7 +1,7 @@
 -- The formals before a place were written, and those from it on are left.
 use Rattle.std.proofs.Common.{drop, flat_map}
 use Rattle.rdlpp_define.specs.Macros.{formal_bytes, AreSoundFormals, formals_of}
-use Rattle.rdlpp_table.specs.View.{macro_at}
+use Rattle.rdlpp_define.specs.Table.{macro_at}
 use Rattle.rdlpp_reports.specs.Definitions.{BeginsWith}
 use Rattle.rdlpp_reports.proofs.Written.{FormalsWritten}
 use Rattle.rdlpp_reports.proofs.definitions.write_formals.Given as goal

@@ -1,7 +1,7 @@
 -- The parts of the line were written one after another.
 use Rattle.std.proofs.Common.{sym, ◌∙◌}
 use Rattle.std.proofs.lemmas.Result.{err_from_is_err_and}
-use Rattle.rdlpp_table.specs.View.{macro_at}
+use Rattle.rdlpp_define.specs.Table.{macro_at}
 use Rattle.rdlpp_reports.proofs.Written.{comment_line, formals_in_front, whole_line, writes_by, writes_part, writes_then, writes_whole}
 use Rattle.rdlpp_reports.proofs.definitions.write_macro.Goals as goal
 

@@ -3,7 +3,7 @@ use Rattle.rdlpp_table.specs.FormalOffsets.{table_offsets}
 use Rattle.rdlpp_table.specs.Index.{IsDivided, bucket_of, names_of}
 use Rattle.rdlpp_table.specs.IndexView.{IndexRoom, IndexView}
 use Rattle.rdlpp_define.specs.Macros.{Macro}
-use Rattle.rdlpp_table.specs.Table.{table_size, without}
+use Rattle.rdlpp_define.specs.Table.{table_size, without}
 use Rattle.rdlpp_table.specs.Store.{IsStored, macros_in}
 use Rattle.rdlpp_table.proofs.News.{new_size}
 use Rattle.rdlpp_table.proofs.Indexed.{entered_with, few_left, few_starts, gap_in_bucket}

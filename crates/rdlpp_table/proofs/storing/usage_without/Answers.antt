@@ -1,6 +1,6 @@
 use Rattle.std.proofs.Common.{◌≡◌, ◌∙◌, ◌+◌, List, Some, ap, arith, drop, get_or, length, sym}
 use Rattle.rdlpp_table.specs.declared.entry.Entry.{Entry}
-use Rattle.rdlpp_table.specs.View.{place_named}
+use Rattle.rdlpp_define.specs.Table.{place_named}
 use Rattle.rdlpp_table.specs.Store.{macros_in}
 use Rattle.rdlpp_table.proofs.Indexed.{place_in_bucket}
 use Rattle.rdlpp_table.proofs.Orders.{indexed_gap, indexed_place}

@@ -1,5 +1,5 @@
 use Rattle.std.proofs.Common.{refl, arith}
-use Rattle.rdlpp_table.specs.Table.{table_size}
+use Rattle.rdlpp_define.specs.Table.{table_size}
 use Rattle.rdlpp_read.specs.Buffer.{closed_buffer, unused_of}
 use Rattle.rdlpp_state.specs.Engine.{is_open}
 use Rattle.rdlpp_state.specs.Opening.{fresh_engine}

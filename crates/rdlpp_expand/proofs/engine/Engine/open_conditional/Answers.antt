@@ -1,6 +1,5 @@
 use Rattle.std.proofs.Common.{◌≡◌, Bool, Some, Ok, ap, subst, ◌∙◌, is_some, option_map}
-use Rattle.rdlpp_table.specs.Table.{macro_named}
-use Rattle.rdlpp_table.specs.View.{macro_at}
+use Rattle.rdlpp_define.specs.Table.{macro_named, macro_at}
 use Rattle.rdlpp_read.specs.Buffer.{held_of}
 use Rattle.rdlpp_read.specs.Files.{inner_buffer}
 use Rattle.rdlpp_front.specs.SourceItems.{IsNamed, argument_name}

@@ -1,5 +1,5 @@
 use Rattle.std.proofs.Common.{◌≡◌, take, ap, ◌∙◌}
-use Rattle.rdlpp_table.specs.View.{macro_at}
+use Rattle.rdlpp_define.specs.Table.{macro_at}
 use Rattle.rdlpp_state.proofs.FrontSteps.{kept_cut}
 use Rattle.rdlpp_expand.proofs.engine.Engine.record_refused.Goals as goal
 

@@ -1,6 +1,6 @@
 use Rattle.std.proofs.Common.{◌≡◌, Ok, ap, subst, ◌∙◌}
 use Rattle.rdlpp_scan.specs.declared.token.Directive.TheVariants.{Undef}
-use Rattle.rdlpp_table.specs.Table.{without}
+use Rattle.rdlpp_define.specs.Table.{without}
 use Rattle.rdlpp_read.specs.Buffer.{held_of}
 use Rattle.rdlpp_read.specs.Files.{consumed_file, inner_buffer, with_inner}
 use Rattle.rdlpp_front.specs.SourceItems.{IsNamed, argument_name}

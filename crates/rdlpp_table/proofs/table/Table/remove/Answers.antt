@@ -1,7 +1,6 @@
 use Rattle.std.proofs.Common.{◌∙◌, ap, arith, drop}
 use Rattle.std.proofs.lemmas.Grind.{common_steps}
-use Rattle.rdlpp_table.specs.Table.{without}
-use Rattle.rdlpp_table.specs.View.{TableView}
+use Rattle.rdlpp_define.specs.Table.{without, TableView}
 use Rattle.rdlpp_table.specs.Layout.{view_of}
 use Rattle.rdlpp_define.proofs.Sizes.{count_items}
 use Rattle.rdlpp_table.proofs.RoundTrip.{table_of, held_of, view_after, sound_without}

@@ -1,4 +1,4 @@
-use Rattle.rdlpp_table.specs.View.{macro_at}
+use Rattle.rdlpp_define.specs.Table.{macro_at}
 use Rattle.rdlpp_table.proofs.FirstPoints.{some_kept as some_point}
 use Rattle.rdlpp_table.proofs.table.Table.seek_point.Goals as goal
 

@@ -1,10 +1,9 @@
 use Rattle.std.proofs.Common.{List, ℕ, ◌≡◌, ◌≤◌, ◌+◌, ◌∷◌, ◌++◌, [], ap, sym, ◌∙◌, arith, drop, length}
 use Rattle.std.proofs.lemmas.Grind.{common_steps}
 use Rattle.rdlpp_define.specs.Macros.{Macro, macro_size, list_size}
-use Rattle.rdlpp_table.specs.Table.{without, table_size}
+use Rattle.rdlpp_define.specs.Table.{without, table_size, TableView}
 use Rattle.rdlpp_table.specs.IndexView.{IndexRoom}
-use Rattle.rdlpp_table.specs.View.{TableView}
-use Rattle.rdlpp_table.specs.Stored.{Accepted}
+use Rattle.rdlpp_define.specs.Defined.{Accepted}
 use Rattle.rdlpp_table.specs.Store.{macros_in}
 use Rattle.rdlpp_table.specs.Layout.{view_of}
 use Rattle.rdlpp_define.proofs.Sizes.{count_items}

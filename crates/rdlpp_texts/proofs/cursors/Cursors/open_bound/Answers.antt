@@ -1,7 +1,7 @@
 use Rattle.std.proofs.Common.{◌∙◌, ◌<◌, List, Option, unwrap_or, ℕ, length, drop, ap, refl, sym, arith, leb-false, leb-true}
 use Rattle.rdlpp_texts.specs.BoundCalls.{added}
 use Rattle.rdlpp_texts.specs.declared.bindings.Range.{Range}
-use Rattle.rdlpp_table.specs.View.{macro_at}
+use Rattle.rdlpp_define.specs.Table.{macro_at}
 use Rattle.rdlpp_define.proofs.Sizes.{count_items}
 use Rattle.rdlpp_texts.specs.Opened.{opens_of}
 use Rattle.rdlpp_texts.proofs.Stacking.{arity-count, call-bound, call-room, called-opens, first-inside, formals-few, lent-body, lent-bounded, opening-deep, opening-opened, opening-refused, room-first, some-open, stack-called, taken-back, view-is}

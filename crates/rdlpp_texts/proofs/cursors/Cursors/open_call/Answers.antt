@@ -2,7 +2,7 @@ use Rattle.std.proofs.Common.{◌∙◌, List, Option, unwrap_or, ℕ, length, d
 use Rattle.std.proofs.lemmas.Result.{err_from_is_err_and}
 use Rattle.rdlpp_texts.specs.BoundCalls.{added}
 use Rattle.rdlpp_texts.specs.declared.bindings.Range.{Range}
-use Rattle.rdlpp_table.specs.View.{macro_at}
+use Rattle.rdlpp_define.specs.Table.{macro_at}
 use Rattle.rdlpp_define.specs.Macros.{formals_of}
 use Rattle.rdlpp_define.proofs.Sizes.{count_items}
 use Rattle.rdlpp_texts.specs.Opened.{opens_of, CursorsView}

@@ -1,6 +1,6 @@
 use Rattle.std.proofs.Common.{Bool, not, sym, ap, ◌∙◌, subst, is_some, arith}
 use Rattle.rdlpp_read.specs.Buffer.{EndsHeld}
-use Rattle.rdlpp_table.specs.View.{macro_at}
+use Rattle.rdlpp_define.specs.Table.{macro_at}
 use Rattle.rdlpp_front.proofs.Insides.{usage_inside}
 use Rattle.rdlpp_usages.specs.declared.expansion.Opening.TheVariants.{Opened}
 use Rattle.rdlpp_usages.proofs.UsageOpens.{body_means, call_means_by, is_list, keeps_listed_by, keeps_plain, leaves_plain, no_list, opened_line, uses_more, uses_name}

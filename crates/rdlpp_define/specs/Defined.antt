@@ -2,10 +2,8 @@
 -- A definition that names no source is this project's own.
 use Rattle.rdlpp_define.specs.Define.{Draft, DraftFault, Drawn, macro_of, macro_set}
 use Rattle.std.specs.Prelude.{ℕ, ◌+◌, nat_lt, List, [], ◌∷◌, ◌++◌, length, Result, Ok, Err, if◌then◌else◌}
-unfoldable pub use Rattle.rdlpp_scan.specs.Continuations.{continuation_len, without_continuations}
-unfoldable pub use Rattle.rdlpp_scan.specs.KeptText.{is_space, onto_trimmed, without_end, trimmed_of, ends_default, level_after}
 use Rattle.rdlpp_define.specs.Macros.{Macro, macro_size}
-use Rattle.rdlpp_table.specs.Table.{table_size, without}
+use Rattle.rdlpp_define.specs.Table.{table_size, without}
 use Rattle.rdlpp_define.specs.declared.fault.DefineKind.{DefineKind}
 use Rattle.rdlpp_define.specs.declared.fault.DefineFault.{DefineFault}
 use Rattle.rdlpp_define.specs.declared.fault.DefineKind.TheVariants as kind

@@ -1,6 +1,6 @@
 // The limits of a run, their standard values and their ranges.
 ghost use Rattle.std.specs.Prelude.{◌≡◌, IsOk, OnOk, MatchResult, Some, None};
-ghost use Rattle.rdlpp_table.specs.Limits.{is_within, limit_fault, AreInRange};
+ghost use Rattle.rdlpp_define.specs.Limits.{is_within, limit_fault, AreInRange};
 
 /// How much of each thing a run may use (this project's profile).
 #[derive(Clone, Copy, Debug, PartialEq, Eq)]

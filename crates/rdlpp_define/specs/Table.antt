@@ -1,9 +1,20 @@
--- What a contract sees of a table.
+-- The macros of a table, by name and by place, what they count, and what a contract sees of a table.
 -- A definition that names no source is this project's own.
-use Rattle.rdlpp_define.specs.Macros.{IsSoundMacro, Formal, Macro}
-use Rattle.std.specs.Prelude.{ℕ, ◌≤◌, All, List, [], length, map, bytes_eq, slice_index_or, Option, None, position}
+use Rattle.std.specs.Prelude.{ℕ, ◌≤◌, All, List, [], length, map, filter, find, not, bytes_eq, slice_index_or, sum_by, Option, None, position}
 use Rattle.std.specs.List.{IsDistinct}
-use Rattle.rdlpp_table.specs.Table.{table_size}
+use Rattle.rdlpp_define.specs.Macros.{Formal, IsSoundMacro, Macro, macro_size}
+
+-- the macro of a name, in a list of macros with distinct names, oldest first
+unfoldable pub macro_named : List Macro → List ℕ → Option Macro
+macro_named macros name = find (λ m. bytes_eq m.name name) macros
+
+-- the macros but the one of a name
+unfoldable pub without : List ℕ → List Macro → List Macro
+without name macros = filter (λ m. not (bytes_eq m.name name)) macros
+
+-- what a table counts
+unfoldable pub table_size : List Macro → ℕ
+table_size macros = sum_by macro_size macros
 
 -- the macros, oldest first, and the most bytes and the most macros that the table takes
 pub record TableView : Type 0 where

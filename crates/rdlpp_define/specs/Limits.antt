@@ -1,9 +1,9 @@
 -- The ranges of the limits.
 -- A definition that names no source is this project's own.
 use Rattle.std.specs.Prelude.{ℕ, ◌≤◌, Bool, ◌&&◌, nat_le, Option, None, Some, if◌then◌else◌}
-use Rattle.rdlpp_table.specs.declared.limits.Limits.{Limits}
-use Rattle.rdlpp_table.specs.declared.limits.LimitFault.{LimitFault}
-use Rattle.rdlpp_table.specs.declared.limits.LimitFault.TheVariants.{Depth, Includes, LineBytes, SourceBytes, ArgumentBytes, DefinitionBytes, Definitions, Conditions, OutputBytes}
+use Rattle.rdlpp_define.specs.declared.limits.Limits.{Limits}
+use Rattle.rdlpp_define.specs.declared.limits.LimitFault.{LimitFault}
+use Rattle.rdlpp_define.specs.declared.limits.LimitFault.TheVariants.{Depth, Includes, LineBytes, SourceBytes, ArgumentBytes, DefinitionBytes, Definitions, Conditions, OutputBytes}
 
 -- from the least up to the greatest
 abbrev pub IsWithin : ℕ → ℕ → ℕ → Type 0
