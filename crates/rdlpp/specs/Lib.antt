@@ -8,3 +8,4 @@ pub mod Opening
 pub mod Running
 pub mod Written
 pub mod Renewing
+pub mod LeftOut

@@ -5,6 +5,8 @@
 mod defining;
 mod fault;
 mod folders;
+mod left_out;
+mod notes;
 mod opening;
 mod options;
 mod preprocessing;
@@ -16,6 +18,7 @@ mod written;
 
 pub use fault::PrepFault;
 pub use folders::{FileFailure, FolderReader, Folders};
+pub use notes::{write_failure, write_notes};
 pub use opening::{open_reading, reopen_reading};
 pub use options::Options;
 pub use preprocessing::preprocess;
@@ -26,7 +29,7 @@ pub use rdlpp_expand::{
 };
 pub use rdlpp_reports::{
     DefinitionPlaces, FileId, FileSources, MapWriter, OpenedPaths, Recorded, write_defined,
-    write_definitions, write_dependencies, write_failure, write_notes,
+    write_definitions, write_dependencies,
 };
 pub use rdlpp_source::{Buffered, Counted, Found, Sink, SinkFault, SourceFault, Sources, Texts};
 pub use rdlpp_table::{NoMemory, Table};

@@ -22,7 +22,7 @@ use Rattle.rdlpp_state.proofs.FrontSteps.{opened_phase}
 use Rattle.rdlpp_state.proofs.Stores.{KeepsStores, keeps_refused}
 use Rattle.rdlpp_expand.specs.Run.{Begins, Breaks, Finishes, Flushes, Going, Pulls, Runs, Stops, StopsAt, Unflushed, Wrote, WroteEnds, answered, is_fresh, is_kept, write_fault}
 use Rattle.rdlpp_expand.specs.Watching.{Shows}
-use Rattle.rdlpp_expand.specs.declared.watching.Watcher.{Ghosts as WatcherGhosts}
+use Rattle.rdlpp_state.specs.declared.watching.Watcher.{Ghosts as WatcherGhosts}
 use Rattle.rdlpp_expand.specs.declared.writing.Ending.{Ending}
 use Rattle.rdlpp_expand.specs.declared.writing.Ending.TheVariants.{Finished, Stopped, Unwritten}
 

@@ -3,7 +3,7 @@
 use Rattle.std.specs.Prelude.{◌≡◌, ℕ, true, false, List}
 use Rattle.std.specs.Io.KnownBytes.{Appends}
 use Rattle.rdlpp_source.specs.declared.sinks.Sink.{Ghosts as SinkGhosts}
-use Rattle.rdlpp_expand.specs.declared.watching.Watcher.{Ghosts as WatcherGhosts}
+use Rattle.rdlpp_state.specs.declared.watching.Watcher.{Ghosts as WatcherGhosts}
 
 -- a watcher that looks was shown the very bytes that a sink took, in their order, and one that doesn't is as it was (this project's profile)
 pub record Shows {W V : Type 0} (h : SinkGhosts W) (v : WatcherGhosts V) (before after : W) (was now : V) : Type 0 where

@@ -46,7 +46,6 @@ mod usage;
 
 use arrayvec::ArrayString;
 use fronts::location_of;
-pub use looking::OpenSource;
 use rdlpp_define::{Limits, word_of};
 use rdlpp_front::{Argument, SourceItem, next_item};
 use rdlpp_meaning::{Fault, FaultKind};

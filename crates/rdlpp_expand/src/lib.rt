@@ -6,10 +6,11 @@ mod reading;
 mod watching;
 mod writing;
 
-pub use engine::{Engine, OpenSource, READ_ALLOWANCE};
+pub use engine::{Engine, READ_ALLOWANCE};
 pub use rdlpp_laws as laws;
 pub use rdlpp_meaning::{Fault, FaultKind};
-pub use rdlpp_state::{Held, LineStep, NewFault, Piece, Position, fault_kind};
+pub use rdlpp_state::{
+    Held, LineStep, NewFault, OpenSource, Piece, Placed, Position, Unwatched, Watcher, fault_kind,
+};
 pub use reading::{ReadEnd, ReadPart, Reading};
-pub use watching::{Placed, Unwatched, Watcher};
 pub use writing::{RunFault, run, run_watched};

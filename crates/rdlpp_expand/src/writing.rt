@@ -9,11 +9,10 @@ ghost use Rattle.rdlpp_state.specs.Engine.{EngineView};
 ghost use Rattle.rdlpp_state.specs.Moves.{IsDrained};
 ghost use Rattle.rdlpp_state.specs.Steps.{IsStarted};
 
-use crate::engine::{Engine, OpenSource, TextStep};
-use crate::watching::{Placed, Unwatched, Watcher};
+use crate::engine::{Engine, TextStep};
 use rdlpp_meaning::Fault;
 use rdlpp_source::{Sink, Sources};
-use rdlpp_state::Piece;
+use rdlpp_state::{OpenSource, Piece, Placed, Unwatched, Watcher};
 
 /// Why a run ended before the end of the output.
 #[derive(Drop, Debug)]

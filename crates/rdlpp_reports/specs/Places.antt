@@ -6,7 +6,7 @@ use Rattle.std.specs.String.{string_bytes}
 use Rattle.indexmap.specs.IndexMap.{get_by_text}
 use Rattle.rdlpp_define.specs.Macros.{Macro}
 use Rattle.rdlpp_define.specs.Table.{macro_at}
-use Rattle.rdlpp_expand.specs.declared.engine.looking.OpenSource.{OpenSource}
+use Rattle.rdlpp_state.specs.declared.positions.OpenSource.{OpenSource}
 use Rattle.rdlpp_reports.specs.declared.places.DefinitionPlaces.{DefinitionPlaces}
 use Rattle.rdlpp_reports.specs.declared.places.ShownPlace.{ShownPlace}
 

@@ -1,14 +1,12 @@
-//! What a run tells beside its output: the sources that it opened, the macros that are left, the place of each line, and notes on
-//! a fault, also where a macro was defined.
+//! What a run tells beside its output: the sources that it opened, the macros that are left and where they were defined, and the
+//! place of each line.
 #![tactic(auto)]
 
 mod definitions;
 mod dependencies;
 mod files;
-mod left_out;
 mod lines;
 mod map_writer;
-mod notes;
 mod places;
 mod recorded;
 mod writing;
@@ -18,7 +16,6 @@ pub use dependencies::write_dependencies;
 pub use files::{FileId, FileSources};
 pub use lines::{LineRun, MappedLines, write_map_start, write_run};
 pub use map_writer::MapWriter;
-pub use notes::{write_failure, write_notes};
 pub use places::{DefinitionPlaces, write_defined};
 pub use recorded::{OpenedPaths, Recorded};
-pub use writing::{write_parts, write_whole};
+pub use writing::{NOTE, write_parts, write_whole};

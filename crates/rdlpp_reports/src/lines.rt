@@ -7,8 +7,7 @@ ghost use Rattle.rdlpp_reports.specs.Writes.{Writes};
 use crate::writing::{write_parts, write_whole};
 use arrayvec::ArrayString;
 use itoa::Buffer;
-use rdlpp_expand::Placed;
-use rdlpp_state::{LineStep, Position};
+use rdlpp_state::{LineStep, Placed, Position};
 use std::io::{self, Write};
 use std::marker::Model;
 

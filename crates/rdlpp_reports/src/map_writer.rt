@@ -1,6 +1,6 @@
 //! A watcher that writes the line map of what it is shown.
 use crate::lines::{MappedLines, write_map_start, write_run};
-use rdlpp_expand::{Placed, Watcher};
+use rdlpp_state::{Placed, Watcher};
 use std::io::{self, Write};
 
 /// Writes the line map of the output that it is shown, run by run.

@@ -3,11 +3,11 @@ ghost use Rattle.std.specs.Prelude.{◌≡◌, ◌<◌, ◌⊎◌, ℕ, List, No
 ghost use Rattle.std.specs.Option.{option_map};
 ghost use Rattle.rdlpp_reports.specs.Places.{newest_name, shown_at, shown_by, shown_of, Forgets, NotesPlace};
 
-use crate::notes::NOTE;
-use crate::writing::write_parts;
+use crate::writing::{NOTE, write_parts};
 use indexmap::IndexMap;
 use itoa::Buffer;
-use rdlpp_expand::{Fault, FaultKind, OpenSource};
+use rdlpp_meaning::{Fault, FaultKind};
+use rdlpp_state::OpenSource;
 use rdlpp_table::Table;
 use std::alloc::{AllocError, Global};
 use std::io::{self, Write};

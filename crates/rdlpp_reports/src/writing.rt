@@ -5,6 +5,9 @@ ghost use Rattle.rdlpp_reports.specs.Writes.{Writes};
 
 use std::io::{self, ErrorKind, Write};
 
+/// What a note begins with.
+pub const NOTE: &[u8] = b"rdlpp: note: ";
+
 /// Writes some parts, one after another.
 ///
 /// # Errors

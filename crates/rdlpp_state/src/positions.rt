@@ -28,6 +28,15 @@ pub struct Position<'a> {
     pub step: LineStep,
 }
 
+/// What an open source shows.
+#[derive(Clone, Copy, Debug)]
+pub struct OpenSource<'a> {
+    /// The name that it shows.
+    pub name: &'a str,
+    /// The number that the line of its next byte shows.
+    pub line: u64,
+}
+
 // Where the piece begins that was lent last.
 #[derive(Clone, Copy)]
 enum Lent {

@@ -12,18 +12,10 @@ ghost use Rattle.rdlpp_expand.specs.Looking.{Includes};
 use super::Engine;
 use rdlpp_define::Limits;
 use rdlpp_source::Sources;
+use rdlpp_state::OpenSource;
 use rdlpp_table::Table;
 use rdlpp_texts::TextPlace;
 use std::mem;
-
-/// What an open source shows.
-#[derive(Clone, Copy, Debug)]
-pub struct OpenSource<'a> {
-    /// The name that it shows.
-    pub name: &'a str,
-    /// The number that the line of its next byte shows.
-    pub line: u64,
-}
 
 impl<S: Sources> Engine<S> {
     /// The sources.

@@ -4,19 +4,16 @@ ghost use Rattle.rdlpp_meaning.specs.Opens.{Texts};
 ghost use Rattle.rdlpp_texts.specs.Places.{IsSource};
 
 use crate::left_out::is_left_out;
-use crate::writing::{write_parts, write_whole};
 use itoa::Buffer;
 use rdlpp_define::Limits;
 use rdlpp_expand::{Engine, Fault, FaultKind};
 use rdlpp_front::{SourceItem, next_item};
+use rdlpp_reports::{NOTE, write_parts, write_whole};
 use rdlpp_scan::Mode;
 use rdlpp_source::{SearchedFolders, Sources, joined_path};
 use rdlpp_table::MacroId;
 use rdlpp_texts::{PartEnd, TextSource, next_part, text_at};
 use std::io::{self, Write};
-
-// What a note begins with.
-pub(crate) const NOTE: &[u8] = b"rdlpp: note: ";
 
 /// Writes the notes on the fault that ended a run, each a line `rdlpp: note: ..`, as far as the engine knows what they tell.
 ///

@@ -1,6 +1,6 @@
 // Directives of others, by their names.
 ghost use Rattle.std.specs.Prelude.{◌≡◌};
-ghost use Rattle.rdlpp_reports.specs.LeftOut.{is_left_out};
+ghost use Rattle.rdlpp.specs.LeftOut.{is_left_out};
 
 // Whether a name is that of a directive which is none here (IEEE 1364-2001, compiler directives; this project's
 // profile for `if`).

@@ -1,6 +1,6 @@
 use Rattle.std.proofs.Common.{length, subst, sym, ◌<◌}
 use Rattle.rdlpp_state.specs.Pieces.{held_texts}
-use Rattle.rdlpp_reports.proofs.notes.write_text_of.Goals as goal
+use Rattle.rdlpp.proofs.notes.write_text_of.Goals as goal
 
 pub name-name-requires : goal.name-name-requires
 name-name-requires g c =
