@@ -23,7 +23,7 @@ help: ## list these commands
 build: out/rdlpp ## prove and build the program, which becomes out/rdlpp
 
 out/rdlpp: $(call sources,rdlpp_cli)
-	@checks/program
+	@checks/build
 
 run: ## show the worked examples with their output, in two minutes: by out/rdlpp, or by a program without a proof where that isn't built
 	@if $(MAKE) --silent --question out/rdlpp; then examples/show; else examples/show --unproved; fi

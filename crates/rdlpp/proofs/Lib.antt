@@ -1,3 +1,2 @@
 pub mod Runs
-pub mod Searches
 pub mod Renewals

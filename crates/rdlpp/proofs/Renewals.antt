@@ -11,7 +11,7 @@ use Rattle.rdlpp.specs.Opening.{EndsUnopened, OpensGiven}
 use Rattle.rdlpp.specs.Preprocess.{given_by}
 use Rattle.rdlpp.specs.Renewing.{HasLimitsOf}
 use Rattle.rdlpp.specs.Running.{MakesEngine}
-use Rattle.rdlpp.specs.declared.options.Options.{Options}
+use Rattle.rdlpp_define.specs.declared.options.Options.{Options}
 use Rattle.rdlpp.proofs.Runs.{declines, fresh_of, opens_given}
 
 -- an engine of the limits of options that is renewed is as one that was made

@@ -27,11 +27,12 @@ use Rattle.rdlpp_reports.specs.Writes.{Writes}
 use Rattle.rdlpp.specs.Definitions.{GivenFault, Given, Pair, Taken, given, given_in, refused_definition, with_macros}
 use Rattle.rdlpp.specs.Opening.{OpensGiven}
 use Rattle.rdlpp.specs.Preprocess.{Follows, Preprocesses, RunsFresh, Tells, WritesOutput, engine_with, given_by, is_failure, output_given}
-use Rattle.rdlpp.specs.Report.{Reports, fault_line, limit_name, line_end, report_line}
+use Rattle.rdlpp_define.specs.Limits.{limit_name}
+use Rattle.rdlpp.specs.Report.{Reports, fault_line, line_end, report_line}
 use Rattle.rdlpp.specs.Running.{FollowsFrom, IsFreshOf, MakesEngine, RunsFrom}
 use Rattle.rdlpp.specs.declared.fault.PrepFault.{PrepFault}
 use Rattle.rdlpp.specs.declared.fault.PrepFault.TheVariants.{BadLimits, NoMemory, Run}
-use Rattle.rdlpp.specs.declared.options.Options.{Options}
+use Rattle.rdlpp_define.specs.declared.options.Options.{Options}
 
 -- One definition after another is given to a table.
 

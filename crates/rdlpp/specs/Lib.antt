@@ -2,10 +2,7 @@ pub mod Status
 pub mod Report
 pub mod Definitions
 pub mod Preprocess
-pub mod Answers
-pub mod Folders
 pub mod Opening
 pub mod Running
-pub mod Written
 pub mod Renewing
 pub mod LeftOut

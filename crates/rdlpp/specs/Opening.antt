@@ -11,7 +11,7 @@ use Rattle.rdlpp_state.specs.Opening.{Starts, is_device_fault, is_memory_fault}
 use Rattle.rdlpp_expand.specs.Reading.{ReadingView, reading_left, unstarted}
 use Rattle.rdlpp.specs.Definitions.{Given, Taken, GivenFault}
 use Rattle.rdlpp.specs.Preprocess.{engine_with, given_by}
-use Rattle.rdlpp.specs.declared.options.Options.{Options}
+use Rattle.rdlpp_define.specs.declared.options.Options.{Options}
 use Rattle.rdlpp_expand.specs.declared.writing.RunFault.{RunFault}
 use Rattle.rdlpp.specs.declared.fault.PrepFault.{PrepFault}
 use Rattle.rdlpp.specs.declared.fault.PrepFault.TheVariants.{BadLimits, NoMemory, Run}

@@ -14,7 +14,7 @@ use Rattle.rdlpp_state.specs.Opening.{Starts, fresh_engine, searches_of, is_devi
 use Rattle.rdlpp_expand.specs.Run.{Runs, Begins}
 use Rattle.rdlpp_state.specs.Steps.{is_write_failed}
 use Rattle.rdlpp.specs.Definitions.{Given, Taken, GivenFault, given, with_macros}
-use Rattle.rdlpp.specs.declared.options.Options.{Options}
+use Rattle.rdlpp_define.specs.declared.options.Options.{Options}
 use Rattle.rdlpp.specs.declared.fault.PrepFault.{PrepFault}
 use Rattle.rdlpp.specs.declared.fault.PrepFault.TheVariants.{BadLimits, NoMemory, Run}
 

@@ -3,7 +3,7 @@
 use Rattle.std.specs.Prelude.{◌≡◌, Option, None, Some, ⊤}
 use Rattle.rdlpp_define.specs.Limits.{limit_fault}
 use Rattle.rdlpp_state.specs.Engine.{EngineView}
-use Rattle.rdlpp.specs.declared.options.Options.{Options}
+use Rattle.rdlpp_define.specs.declared.options.Options.{Options}
 
 -- an engine, if there is one, has the limits of options, which are in their ranges
 abbrev pub HasLimitsOf : {S R : Type 0} → Options → Option (EngineView S R) → Type 0

@@ -2,25 +2,12 @@
 -- A definition that names no source is this project's own.
 use Rattle.std.specs.Prelude.{ℕ, List, [], ◌∷◌, ◌++◌, codes, decimal, Option, Result}
 use Rattle.std.specs.List.{concat}
-use Rattle.rdlpp_define.specs.declared.limits.LimitFault.{LimitFault}
-use Rattle.rdlpp_define.specs.declared.limits.LimitFault.TheVariants.{Depth, Includes, LineBytes, SourceBytes, ArgumentBytes, DefinitionBytes, Definitions, Conditions, OutputBytes}
+use Rattle.rdlpp_define.specs.Limits.{limit_name}
 use Rattle.rdlpp_meaning.specs.declared.fault.Fault.{Fault}
 use Rattle.rdlpp_meaning.specs.FaultNumbers.{fault_number}
 use Rattle.rdlpp_reports.specs.Writes.{Writes}
 use Rattle.rdlpp.specs.declared.fault.PrepFault.{PrepFault}
 use Rattle.rdlpp.specs.declared.fault.PrepFault.TheVariants.{BadLimits, NoMemory, Run}
-
--- the name of the limit that is out of its range (source: this project's profile)
-abbrev pub limit_name : LimitFault → List ℕ
-limit_name Depth = codes "depth"
-limit_name Includes = codes "includes"
-limit_name LineBytes = codes "line_bytes"
-limit_name SourceBytes = codes "source_bytes"
-limit_name ArgumentBytes = codes "argument_bytes"
-limit_name DefinitionBytes = codes "definition_bytes"
-limit_name Definitions = codes "definitions"
-limit_name Conditions = codes "conditions"
-limit_name OutputBytes = codes "output_bytes"
 
 -- the end of a line: a blank and the word that the fault is about in quotes, where there is one, and LF (source: this project's profile)
 abbrev pub line_end : List ℕ → List ℕ

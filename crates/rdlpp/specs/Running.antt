@@ -9,7 +9,7 @@ use Rattle.rdlpp_state.specs.Engine.{EngineView}
 use Rattle.rdlpp_state.specs.Opening.{fresh_engine}
 use Rattle.rdlpp.specs.Definitions.{Given, Taken, GivenFault}
 use Rattle.rdlpp.specs.Preprocess.{RunsFresh, engine_with, given_by}
-use Rattle.rdlpp.specs.declared.options.Options.{Options}
+use Rattle.rdlpp_define.specs.declared.options.Options.{Options}
 use Rattle.rdlpp.specs.declared.fault.PrepFault.{PrepFault}
 use Rattle.rdlpp.specs.declared.fault.PrepFault.TheVariants.{BadLimits, NoMemory, Run}
 

@@ -20,7 +20,7 @@ pub struct Preprocessor<S: Sources> {
 
 impl<S: Sources> Model for Preprocessor<S> {
     ghost use Rattle.rdlpp.specs.Renewing.{HasLimitsOf};
-    ghost use Rattle.rdlpp.specs.declared.options.Options.{Options};
+    ghost use Rattle.rdlpp_define.specs.declared.options.Options.{Options};
 
     ghost Value = { Options };
 

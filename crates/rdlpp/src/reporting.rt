@@ -1,12 +1,12 @@
 // The line that reports a fault.
 ghost use Rattle.std.specs.Prelude.{◌≡◌, ℕ, List};
 ghost use Rattle.rdlpp_reports.specs.Writes.{Writes};
-ghost use Rattle.rdlpp.specs.Report.{Reports, limit_name, fault_line, line_end};
+ghost use Rattle.rdlpp.specs.Report.{Reports, fault_line, line_end};
 
 use crate::PrepFault;
 use arrayvec::ArrayString;
 use itoa::Buffer;
-use rdlpp_define::LimitFault;
+use rdlpp_define::limit_name;
 use rdlpp_expand::Fault;
 use rdlpp_reports::{write_parts, write_whole};
 use std::fmt::Write as _;
@@ -31,23 +31,6 @@ pub fn report<W: Write>(fault: &PrepFault, writer: &mut W) -> Result<(), io::Err
         }
         PrepFault::NoMemory => write_whole(b"rdlpp: error: out of memory\n", writer),
         PrepFault::Run(run) => write_fault(&run.fault, writer),
-    }
-}
-
-/// The name of the field of `Limits` that is out of its range, as `report` writes it (this project's profile).
-pub fn limit_name(limit: LimitFault) -> &'static str
-    ensures { result.now ≡ limit_name limit }
-{
-    match limit {
-        LimitFault::Depth => "depth",
-        LimitFault::Includes => "includes",
-        LimitFault::LineBytes => "line_bytes",
-        LimitFault::SourceBytes => "source_bytes",
-        LimitFault::ArgumentBytes => "argument_bytes",
-        LimitFault::DefinitionBytes => "definition_bytes",
-        LimitFault::Definitions => "definitions",
-        LimitFault::Conditions => "conditions",
-        LimitFault::OutputBytes => "output_bytes",
     }
 }
 

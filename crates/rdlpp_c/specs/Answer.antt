@@ -8,7 +8,7 @@ use Rattle.rdlpp_source.specs.Texts.{texts_catalog, left_of}
 use Rattle.rdlpp_define.specs.Limits.{limit_fault}
 use Rattle.rdlpp_meaning.specs.Outcome.{report_of, Outcome}
 use Rattle.rdlpp.specs.Preprocess.{output_of}
-use Rattle.rdlpp.specs.declared.options.Options.{Options}
+use Rattle.rdlpp_define.specs.declared.options.Options.{Options}
 use Rattle.rdlpp_c.specs.Buffers.{overwritten}
 use Rattle.rdlpp_c.specs.Request.{Asked, Asks, AreUtf8, definition_bytes, definition_given, file_bytes, text_given}
 use Rattle.rdlpp_c.specs.declared.asking.Answer.{Answer}

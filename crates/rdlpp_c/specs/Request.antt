@@ -8,7 +8,7 @@ use Rattle.rdlpp_define.specs.declared.limits.Limits.{Limits}
 use Rattle.rdlpp_source.specs.Texts.{folders_of}
 use Rattle.rdlpp_source.specs.declared.texts.Texts.{Texts}
 use Rattle.rdlpp.specs.Definitions.{Pair}
-use Rattle.rdlpp.specs.declared.options.Options.{Options}
+use Rattle.rdlpp_define.specs.declared.options.Options.{Options}
 use Rattle.rdlpp_c.specs.declared.arrays.Limits.{Limits as GivenLimits}
 use Rattle.rdlpp_c.specs.declared.arrays.Text.{Text}
 use Rattle.rdlpp_c.specs.declared.arrays.Folder.{Folder}

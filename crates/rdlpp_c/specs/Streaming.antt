@@ -22,7 +22,7 @@ use Rattle.rdlpp_expand.specs.declared.reading.ReadEnd.TheVariants.{Finished, St
 use Rattle.rdlpp.specs.Preprocess.{output_of}
 use Rattle.rdlpp.specs.declared.fault.PrepFault.{PrepFault}
 use Rattle.rdlpp.specs.declared.fault.PrepFault.TheVariants.{BadLimits, Run, NoMemory as NoneLeft}
-use Rattle.rdlpp.specs.declared.options.Options.{Options}
+use Rattle.rdlpp_define.specs.declared.options.Options.{Options}
 use Rattle.rdlpp_c.specs.Buffers.{overwritten}
 use Rattle.rdlpp_c.specs.Knowing.{KnowsTexts}
 use Rattle.rdlpp_c.specs.Request.{Asked, AreUtf8, definition_bytes, definition_given}

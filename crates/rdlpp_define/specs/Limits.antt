@@ -1,6 +1,6 @@
--- The ranges of the limits.
+-- The ranges of the limits, and their names.
 -- A definition that names no source is this project's own.
-use Rattle.std.specs.Prelude.{ℕ, ◌≤◌, Bool, ◌&&◌, nat_le, Option, None, Some, if◌then◌else◌}
+use Rattle.std.specs.Prelude.{ℕ, List, codes, ◌≤◌, Bool, ◌&&◌, nat_le, Option, None, Some, if◌then◌else◌}
 use Rattle.rdlpp_define.specs.declared.limits.Limits.{Limits}
 use Rattle.rdlpp_define.specs.declared.limits.LimitFault.{LimitFault}
 use Rattle.rdlpp_define.specs.declared.limits.LimitFault.TheVariants.{Depth, Includes, LineBytes, SourceBytes, ArgumentBytes, DefinitionBytes, Definitions, Conditions, OutputBytes}
@@ -46,3 +46,15 @@ limit_fault limits =
     else Some LineBytes)
     else Some Includes)
     else Some Depth
+
+-- the name of the limit that is out of its range (source: this project's profile)
+abbrev pub limit_name : LimitFault → List ℕ
+limit_name Depth = codes "depth"
+limit_name Includes = codes "includes"
+limit_name LineBytes = codes "line_bytes"
+limit_name SourceBytes = codes "source_bytes"
+limit_name ArgumentBytes = codes "argument_bytes"
+limit_name DefinitionBytes = codes "definition_bytes"
+limit_name Definitions = codes "definitions"
+limit_name Conditions = codes "conditions"
+limit_name OutputBytes = codes "output_bytes"

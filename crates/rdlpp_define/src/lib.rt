@@ -1,4 +1,4 @@
-//! Macros: the limits on them and on all else that a run uses, and one `define`, or one definition from outside, read: its logical
+//! What is asked of a run, with the limits on all that it uses; and one `define`, or one definition from outside, read: its logical
 //! line, name, formals with their default texts, and body. Nothing is stored.
 #![tactic(auto)]
 
@@ -8,10 +8,12 @@ mod header;
 mod limits;
 mod name;
 mod new_macro;
+mod options;
 mod reading;
 
 pub use fault::{DefineFault, DefineKind, refusal};
-pub use limits::{LimitFault, Limits};
+pub use limits::{LimitFault, Limits, limit_name};
 pub use name::word_of;
 pub use new_macro::NewMacro;
+pub use options::Options;
 pub use reading::{read_define, read_named};

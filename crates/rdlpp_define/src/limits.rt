@@ -1,6 +1,6 @@
 // The limits of a run, their standard values and their ranges.
 ghost use Rattle.std.specs.Prelude.{◌≡◌, IsOk, OnOk, MatchResult, Some, None};
-ghost use Rattle.rdlpp_define.specs.Limits.{is_within, limit_fault, AreInRange};
+ghost use Rattle.rdlpp_define.specs.Limits.{is_within, limit_fault, limit_name, AreInRange};
 
 /// How much of each thing a run may use (this project's profile).
 #[derive(Clone, Copy, Debug, PartialEq, Eq)]
@@ -116,6 +116,23 @@ impl Limits {
             return Some(LimitFault::OutputBytes);
         }
         None
+    }
+}
+
+/// The name of the field of `Limits` that is out of its range, as the line of a fault has it (this project's profile).
+pub fn limit_name(limit: LimitFault) -> &'static str
+    ensures { result.now ≡ limit_name limit }
+{
+    match limit {
+        LimitFault::Depth => "depth",
+        LimitFault::Includes => "includes",
+        LimitFault::LineBytes => "line_bytes",
+        LimitFault::SourceBytes => "source_bytes",
+        LimitFault::ArgumentBytes => "argument_bytes",
+        LimitFault::DefinitionBytes => "definition_bytes",
+        LimitFault::Definitions => "definitions",
+        LimitFault::Conditions => "conditions",
+        LimitFault::OutputBytes => "output_bytes",
     }
 }
 

@@ -6,7 +6,7 @@ use Rattle.std.proofs.lemmas.List.{map-append}
 use Rattle.std.proofs.lemmas.List.Sums.{fold-append}
 use Rattle.indexmap.specs.IndexSet.{insert_key}
 use Rattle.rdlpp_reports.specs.Recorded.{Opening, Told, firsts, is_same, with_opening, with_path, with_source}
-use Rattle.rdlpp_reports.specs.declared.files.FileId.{FileId}
+use Rattle.rdlpp_source.specs.declared.files.FileId.{FileId}
 
 -- a key is among keys where its bytes are among theirs
 among : (ks : List (String Global)) (k : String Global) → list_any (string_eq k) ks ≡ list_any (bytes_eq (string_bytes k)) (map string_bytes ks)

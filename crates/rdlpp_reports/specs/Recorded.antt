@@ -5,7 +5,7 @@ use Rattle.std.specs.List.{list_any}
 use Rattle.std.specs.String.{string_bytes}
 use Rattle.rdlpp_source.specs.declared.sources.Found.{Found}
 use Rattle.rdlpp_source.specs.declared.sources.SourceFault.{SourceFault}
-use Rattle.rdlpp_reports.specs.declared.files.FileId.{FileId}
+use Rattle.rdlpp_source.specs.declared.files.FileId.{FileId}
 use Rattle.rdlpp_reports.specs.declared.recorded.OpenedPaths.{OpenedPaths}
 use Rattle.rdlpp_reports.specs.declared.recorded.Recorded.{Recorded}
 
@@ -34,10 +34,6 @@ told_of opened = record { paths = paths_of opened; files = opened.files.keys }
 -- the paths that were noted of sources
 abbrev pub noted_paths : {S : Type 0} → Recorded S → OpenedPaths
 noted_paths r = r.opened
-
--- a text that is given by its path lies in no file
-abbrev pub no_file : {R : Type 0} → R → Option FileId
-no_file reader = None
 
 -- whether sources note what they open
 abbrev pub is_noting : {S : Type 0} → Recorded S → Bool

@@ -4,7 +4,6 @@
 
 mod definitions;
 mod dependencies;
-mod files;
 mod lines;
 mod map_writer;
 mod places;
@@ -13,7 +12,6 @@ mod writing;
 
 pub use definitions::write_definitions;
 pub use dependencies::write_dependencies;
-pub use files::{FileId, FileSources};
 pub use lines::{LineRun, MappedLines, write_map_start, write_run};
 pub use map_writer::MapWriter;
 pub use places::{DefinitionPlaces, write_defined};

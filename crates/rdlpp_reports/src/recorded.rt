@@ -7,9 +7,8 @@ ghost use Rattle.rdlpp_source.specs.Counts.{Counts};
 ghost use Rattle.rdlpp_source.specs.Sources.{Finds, Reads, is_device, is_no_memory};
 ghost use Rattle.rdlpp_reports.specs.Recorded.{firsts, is_noting, is_same, is_whole, noted_paths, noted_sources, paths_of, told_of, NotesOpening, NotesPath, NotesWhere};
 
-use crate::files::{FileId, FileSources};
 use indexmap::IndexSet;
-use rdlpp_source::{Found, SourceFault, Sources};
+use rdlpp_source::{FileId, FileSources, Found, SourceFault, Sources};
 use std::alloc::Global;
 
 /// The sources that were opened, in the order in which they were opened first: of each file the path by which it was opened first,

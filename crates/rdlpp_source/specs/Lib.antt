@@ -6,3 +6,5 @@ pub mod Texts
 pub mod Counted
 pub mod Buffered
 pub mod Asked
+pub mod Files
+pub mod Folders

@@ -16,6 +16,14 @@ pub record Catalog : Type 0 where
   pub top : List ℕ → Answer
   pub find : List ℕ → List ℕ → Answer
 
+-- whether nothing stands at a candidate (source: this project's profile)
+abbrev pub is_absent : {A : Type 0} → Result A SourceFault → Bool
+is_absent (Ok x) = false
+is_absent (Err Absent) = true
+is_absent (Err PathTooLong) = false
+is_absent (Err Device) = false
+is_absent (Err NoMemory) = false
+
 -- whether a call failed at a device (source: this project's profile)
 abbrev pub is_device : {A : Type 0} → Result A SourceFault → Bool
 is_device (Ok x) = false

@@ -16,12 +16,11 @@ ghost use Rattle.rdlpp_define.specs.Table.{place_named};
 
 use crate::buckets::{BucketStarts, GROUP, bucket_of, move_down, move_up};
 use crate::entry::{Entry, name_in};
-use crate::fault::NoMemory;
 use crate::given_up::{GivenUp, live};
 use crate::lookup::{LookupKey, Steps};
 use crate::offsets::push_offsets;
 use crate::removal::{cover, cut};
-use std::alloc::Global;
+use std::alloc::{AllocError, Global};
 use std::cmp::Ordering;
 use std::marker::Model;
 
@@ -362,20 +361,18 @@ impl Index {
         alloc: Global,
         most_places: usize,
         most_offsets: usize,
-    ) -> Result<Index, NoMemory>
+    ) -> Result<Index, AllocError>
         requires { 2 * most_places + most_offsets < 2 ^ 32 }
         ensures { IfOk result (λ index. index ≡ empty_index (record { places = most_places; formal_offsets = most_offsets })) }
     {
-        match Vec::with_capacity(alloc, places_room(most_places) + most_offsets) {
-            Ok(order) => Ok(Index {
-                order,
-                slack_before: [0; 33],
-                given_up: 0,
-                most_places,
-                bucket_starts: BucketStarts::new(),
-            }),
-            Err(_) => Err(NoMemory),
-        }
+        let order = Vec::with_capacity(alloc, places_room(most_places) + most_offsets)?;
+        Ok(Index {
+            order,
+            slack_before: [0; 33],
+            given_up: 0,
+            most_places,
+            bucket_starts: BucketStarts::new(),
+        })
     }
 
     // Takes out all places and all offsets. The slack that each group gets first stays, or what a shorter list has room for.

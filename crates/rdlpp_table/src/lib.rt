@@ -3,7 +3,6 @@
 
 mod buckets;
 mod entry;
-mod fault;
 mod given_up;
 mod index;
 mod lookup;
@@ -15,7 +14,6 @@ mod stored;
 mod storing;
 mod table;
 
-pub use fault::NoMemory;
 pub use lookup::Steps;
 pub use point::ExpansionPoint;
 pub use table::{MacroId, Table};

@@ -12,7 +12,6 @@ ghost use Rattle.rdlpp_define.specs.Macros.{formals_of};
 
 use crate::buckets::bucket_of;
 use crate::entry::{Entry, arity_in, body_in, listed_in, name_in};
-use crate::fault::NoMemory;
 use crate::given_up::{GivenUp, NOTHING, live};
 use crate::index::{Index, place_in, seek_named};
 use crate::lookup::Steps;
@@ -22,7 +21,7 @@ use crate::point_cache::cached_point;
 use crate::removal::remove_named;
 use crate::storing::{replace, usage_without};
 use rdlpp_define::{DefineFault, DefineKind, Limits, NewMacro, read_define, read_named, refusal};
-use std::alloc::Global;
+use std::alloc::{AllocError, Global};
 use std::marker::Model;
 
 /// Macros with distinct names, oldest first, and how many bytes and how many macros are taken.
@@ -87,24 +86,15 @@ impl Table {
     /// An empty table that takes `definition_bytes` bytes and `definitions` macros.
     ///
     /// # Errors
-    /// `NoMemory` where there was no memory for as many bytes, for as many entries, or for an index of them.
-    pub fn new(alloc: Global, limits: &Limits) -> Result<Table, NoMemory>
+    /// There was no memory for as many bytes, for as many entries, or for an index of them.
+    pub fn new(alloc: Global, limits: &Limits) -> Result<Table, AllocError>
         requires { AreInRange limits.now }
         ensures { IfOk result (λ table. table ≡ record { macros = []; most_bytes = limits.now.definition_bytes; most_macros = limits.now.definitions }) }
     {
-        let bytes = match Vec::with_capacity(alloc, limits.definition_bytes) {
-            Ok(bytes) => bytes,
-            Err(_) => return Err(NoMemory),
-        };
-        let entries = match Vec::with_capacity(alloc, limits.definitions) {
-            Ok(entries) => entries,
-            Err(_) => return Err(NoMemory),
-        };
+        let bytes = Vec::with_capacity(alloc, limits.definition_bytes)?;
+        let entries = Vec::with_capacity(alloc, limits.definitions)?;
         let most_offsets = 2 * (limits.definition_bytes / LONG_FORMAL);
-        let index = match Index::new(alloc, limits.definitions, most_offsets) {
-            Ok(index) => index,
-            Err(_) => return Err(NoMemory),
-        };
+        let index = Index::new(alloc, limits.definitions, most_offsets)?;
         Ok(Table {
             bytes,
             entries,

@@ -11,7 +11,7 @@ use crate::command::{
 };
 use clap::error::ErrorKind;
 use clap::{ArgMatches, Command, Error};
-use rdlpp::{Limits, Options, limit_name};
+use rdlpp_define::{Limits, Options, limit_name};
 use std::alloc::{AllocError, Global};
 
 /// What a command line asks for (this project's profile).

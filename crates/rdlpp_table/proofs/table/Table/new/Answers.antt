@@ -6,16 +6,16 @@ use Rattle.rdlpp_table.proofs.table.Table.new.Goals as goal
 
 pub invariant_of-result : goal.invariant_of-result
 invariant_of-result c = record {
-  held = held_when_empty _ _ _ _ c.in-Ok.ensures.items c.in-Ok-with_capacity.ensures.items;
+  held = held_when_empty _ _ _ _ c.in_ok-bytes.ensures.items c.in_ok-entries.ensures.items;
   given_up = omega arith;
-  room = c.in-Ok.ensures.exact;
-  entry_room = c.in-Ok-with_capacity.ensures.exact;
-  indexed = rw c.in-Ok-new.ensures (index_of_nothing _ _ _ _ c.in-Ok-with_capacity.ensures.items refl refl);
-  marked = rw c.in-Ok-new.ensures (nothing_marked _ _ c.in-Ok-with_capacity.ensures.items);
-  index_room = ap (λ (v : IndexView). v.room) c.in-Ok-new.ensures;
+  room = c.in_ok-bytes.ensures.exact;
+  entry_room = c.in_ok-entries.ensures.exact;
+  indexed = rw c.in_ok-index.ensures (index_of_nothing _ _ _ _ c.in_ok-entries.ensures.items refl refl);
+  marked = rw c.in_ok-index.ensures (nothing_marked _ _ c.in_ok-entries.ensures.items);
+  index_room = ap (λ (v : IndexView). v.room) c.in_ok-index.ensures;
   few = c.requires.definitions.1;
   small = c.requires.definition_bytes.1;
 }
 
 pub returns : goal.returns
-returns c = empty_view _ _ _ _ c.in-Ok-with_capacity.ensures.items
+returns c = empty_view _ _ _ _ c.in_ok-entries.ensures.items

@@ -1,8 +1,8 @@
 // Which files a run writes.
 ghost use Rattle.std.specs.Prelude.{◌≡◌, ◌↔◌, ◌⊎◌, IsTrue, None, Some};
-ghost use Rattle.rdlpp.specs.Written.{Has, IsEmpty};
+ghost use Rattle.rdlpp_source.specs.Files.{Has, IsEmpty};
 
-use rdlpp_reports::FileId;
+use crate::FileId;
 
 /// At most two files.
 #[derive(Clone, Copy)]

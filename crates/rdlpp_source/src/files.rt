@@ -3,7 +3,7 @@ ghost use Rattle.std.specs.Prelude.{◌≡◌, ◌↔◌, IsTrue};
 ghost use Rattle.std.specs.Fs.{file_type, IsFile};
 ghost use Rattle.std.specs.Option.{is_some};
 
-use rdlpp_source::{AskedReader, AskedTexts, Sources, TextReader, Texts};
+use crate::{AskedReader, AskedTexts, Sources, TextReader, Texts};
 use std::fs::Metadata;
 use std::os::unix::fs::MetadataExt;
 
@@ -32,7 +32,7 @@ impl FileId {
 /// Sources that may know in which file a text lies that they opened.
 pub trait FileSources: Sources {
     ghost use Rattle.std.specs.Prelude.{Option};
-    ghost use Rattle.rdlpp_reports.specs.declared.files.FileId.{FileId};
+    ghost use Rattle.rdlpp_source.specs.declared.files.FileId.{FileId};
 
     // the file in which the text of a reader lies, where that is known
     ghost lies_in: { Self.Reader → Option FileId };
@@ -43,7 +43,7 @@ pub trait FileSources: Sources {
 }
 
 impl<'a> FileSources for Texts<'a> {
-    ghost use Rattle.rdlpp_reports.specs.Recorded.{no_file};
+    ghost use Rattle.rdlpp_source.specs.Files.{no_file};
 
     ghost lies_in = { no_file };
 
@@ -53,7 +53,7 @@ impl<'a> FileSources for Texts<'a> {
 }
 
 impl FileSources for AskedTexts {
-    ghost use Rattle.rdlpp_reports.specs.Recorded.{no_file};
+    ghost use Rattle.rdlpp_source.specs.Files.{no_file};
 
     ghost lies_in = { no_file };
 

@@ -6,10 +6,10 @@ use Rattle.std.specs.String.{string_bytes}
 use Rattle.rdlpp_source.specs.declared.sources.Found.{Found}
 use Rattle.rdlpp_source.specs.declared.sources.SourceFault.{SourceFault}
 use Rattle.rdlpp_source.specs.declared.sources.SourceFault.TheVariants.{Absent, PathTooLong, Device, NoMemory}
-use Rattle.rdlpp_reports.specs.declared.files.FileId.{FileId}
-use Rattle.rdlpp.specs.declared.folders.Folders.{Folders}
-use Rattle.rdlpp.specs.declared.folders.FolderReader.{FolderReader}
-use Rattle.rdlpp.specs.declared.folders.FolderReader.TheVariants.{Input, File}
+use Rattle.rdlpp_source.specs.declared.files.FileId.{FileId}
+use Rattle.rdlpp_source.specs.declared.folders.Folders.{Folders}
+use Rattle.rdlpp_source.specs.declared.folders.FolderReader.{FolderReader}
+use Rattle.rdlpp_source.specs.declared.folders.FolderReader.TheVariants.{Input, File}
 
 -- the include folders, in the order of the search
 abbrev pub include_folders : {R : Type 0} → Folders R → List (List ℕ)

@@ -5,8 +5,8 @@ use Rattle.rdlpp_source.specs.Search.{joined_path}
 use Rattle.rdlpp_source.specs.declared.sources.Found.{Found}
 use Rattle.rdlpp_source.specs.declared.sources.SourceFault.{SourceFault}
 use Rattle.rdlpp_source.specs.declared.sources.SourceFault.TheVariants.{Absent, PathTooLong, Device, NoMemory}
-use Rattle.rdlpp.specs.Answers.{is_absent}
-use Rattle.rdlpp.specs.Folders.{AreShort, OpensOne, OpensPath, SearchesPaths}
+use Rattle.rdlpp_source.specs.Sources.{is_absent}
+use Rattle.rdlpp_source.specs.Folders.{AreShort, OpensOne, OpensPath, SearchesPaths}
 
 -- what the open of a candidate comes to is what the search comes to, unless nothing stands there
 pub searches_one : {R : Type 0} (paths : List (List ℕ)) (answer : Result (Found R) SourceFault)

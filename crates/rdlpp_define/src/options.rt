@@ -1,5 +1,5 @@
 // What is asked of a run.
-use rdlpp_define::Limits;
+use crate::Limits;
 
 /// What is asked of a run (this project's profile).
 #[derive(Drop)]

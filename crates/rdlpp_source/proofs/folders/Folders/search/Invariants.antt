@@ -1,8 +1,8 @@
 -- None of the candidates so far is too long, and those of the folders from here on are left.
 use Rattle.std.proofs.Common.{◌≡◌, ℕ, map, drop, string_bytes}
 use Rattle.rdlpp_source.specs.Search.{candidates, folders_left, joined_path}
-use Rattle.rdlpp.specs.Folders.{AreShort, include_folders}
-use Rattle.rdlpp.proofs.folders.Folders.search.Given as goal
+use Rattle.rdlpp_source.specs.Folders.{AreShort, include_folders}
+use Rattle.rdlpp_source.proofs.folders.Folders.search.Given as goal
 
 abbrev pub invariant-loop-folder : goal.invariant-loop-folder
 invariant-loop-folder g l =

@@ -1,10 +1,10 @@
 -- Each candidate before the one that the search comes to is short.
 use Rattle.std.proofs.Common.{rules, ◌≡◌, false, true, suc, map, sym, ap, ◌∙◌, string_bytes}
 use Rattle.rdlpp_source.specs.Search.{candidates, folders_left, joined_path}
-use Rattle.rdlpp.specs.Answers.{is_absent}
-use Rattle.rdlpp.specs.Folders.{include_folders}
-use Rattle.rdlpp.proofs.Searches.{all_tried, in_folder, none_before, searches_one, short_all, short_more}
-use Rattle.rdlpp.proofs.folders.Folders.search.Goals as goal
+use Rattle.rdlpp_source.specs.Sources.{is_absent}
+use Rattle.rdlpp_source.specs.Folders.{include_folders}
+use Rattle.rdlpp_source.proofs.FolderSearches.{all_tried, in_folder, none_before, searches_one, short_all, short_more}
+use Rattle.rdlpp_source.proofs.folders.Folders.search.Goals as goal
 
 pub loop-folder-init : goal.loop-folder-init
 loop-folder-init g c =

@@ -1,18 +1,17 @@
-//! Sources over files.
+// Sources over files.
 ghost use Rattle.std.specs.Prelude.{◌≡◌, ◌≢◌, ℕ, ◌+◌, ◌-◌, ◌^◌, min, List, map, Option, IfOk, IfErr};
 ghost use Rattle.std.specs.Io.{ReadsAtMost};
 ghost use Rattle.std.specs.Io.KnownBytes.{ReadConsumes};
 ghost use Rattle.rdlpp_source.specs.Counts.{Counts};
 ghost use Rattle.rdlpp_source.specs.Sources.{is_device, is_no_memory};
 ghost use Rattle.rdlpp_source.specs.Search.{candidates, joined_path};
-ghost use Rattle.rdlpp.specs.Answers.{is_absent};
+ghost use Rattle.rdlpp_source.specs.Sources.{is_absent};
 
-use crate::written::FilePair;
+use crate::{
+    FileId, FilePair, FileSources, Found, SearchedFolders, SourceFault, Sources, candidate,
+};
 use arrayvec::ArrayString;
-use rdlpp_reports::{FileId, FileSources};
-use rdlpp_source::{Found, SearchedFolders, SourceFault, Sources, candidate};
-use rdlpp_table::NoMemory;
-use std::alloc::Global;
+use std::alloc::{AllocError, Global};
 use std::cell::Cell;
 use std::fs::{File, OpenFile};
 use std::io::{self, ErrorKind, Read};
@@ -82,7 +81,7 @@ fn open_fault(kind: ErrorKind) -> SourceFault
 }
 
 impl<I: Read, F: Read> FolderReader<I, F> {
-    ghost use Rattle.rdlpp.specs.Folders.{unread_bytes};
+    ghost use Rattle.rdlpp_source.specs.Folders.{unread_bytes};
 
     // Reads the next bytes into the front of `to`.
     fn read(&mut self, to: &mut [u8]) -> io::Result<usize>
@@ -98,7 +97,7 @@ impl<I: Read, F: Read> FolderReader<I, F> {
 }
 
 impl<'r, R: Files + Input> Folders<'r, R> {
-    ghost use Rattle.rdlpp.specs.Folders.{include_folders, device_failures, memory_refusals, IsFile, IsReaderOf, OpensPath, SearchesPaths};
+    ghost use Rattle.rdlpp_source.specs.Folders.{include_folders, device_failures, memory_refusals, IsFile, IsReaderOf, OpensPath, SearchesPaths};
 
     /// Sources over the files of `rt`, with these include folders in the order of the search.
     ///
@@ -106,20 +105,15 @@ impl<'r, R: Files + Input> Folders<'r, R> {
     /// to open, and standard input for one that has its reader.
     ///
     /// # Errors
-    /// `NoMemory` where there was no memory for the folders.
-    pub fn new(rt: &'r R, alloc: Global, folders: &[&str]) -> Result<Folders<'r, R>, NoMemory>
+    /// There was no memory for the folders.
+    pub fn new(rt: &'r R, alloc: Global, folders: &[&str]) -> Result<Folders<'r, R>, AllocError>
         ensures folders { IfOk result (λ made. include_folders made ≡ map (λ folder. folder.now) folders.now) }
         ensures failures { IfOk result (λ made. device_failures made ≡ 0) }
         ensures refusals { IfOk result (λ made. memory_refusals made ≡ 0) }
     {
         let mut kept = Vec::new(alloc);
         for folder in folders {
-            let Ok(folder) = String::from_str(alloc, folder) else {
-                return Err(NoMemory);
-            };
-            if kept.push(folder).is_err() {
-                return Err(NoMemory);
-            }
+            kept.push(String::from_str(alloc, folder)?)?;
         }
         Ok(Folders {
             rt,
@@ -261,7 +255,7 @@ impl<'r, R: Files + Input> Sources for Folders<'r, R> {
 
     ghost use Rattle.std.specs.Prelude.{[]};
     ghost use Rattle.rdlpp_source.specs.Sources.{Missing};
-    ghost use Rattle.rdlpp.specs.Folders.{include_folders, device_failures, memory_refusals, unread_bytes, IsFile, IsReaderOf, OpensPath, SearchesPaths};
+    ghost use Rattle.rdlpp_source.specs.Folders.{include_folders, device_failures, memory_refusals, unread_bytes, IsFile, IsReaderOf, OpensPath, SearchesPaths};
 
     ghost has_known_texts = { λ _. ⊥ };
 
@@ -328,7 +322,7 @@ impl<'r, R: Files + Input> Sources for Folders<'r, R> {
 }
 
 impl<'r, R: Files + Input> FileSources for Folders<'r, R> {
-    ghost use Rattle.rdlpp.specs.Folders.{known_file};
+    ghost use Rattle.rdlpp_source.specs.Folders.{known_file};
 
     ghost lies_in = { known_file };
 

@@ -1,6 +1,6 @@
 -- The counts are those that the trait asks for, and texts are never told.
 use Rattle.std.proofs.Common.{refl}
-use Rattle.rdlpp.proofs.folders.FoldersSources.TheImpl.Goals as goal
+use Rattle.rdlpp_source.proofs.folders.FoldersSources.TheImpl.Goals as goal
 
 pub top-tells : goal.top-tells
 top-tells g x x' c = record {
