@@ -3,9 +3,8 @@ ghost use Rattle.std.specs.Prelude.{◌≡◌, ◌≢◌, ℕ, ◌+◌, ◌-◌,
 ghost use Rattle.std.specs.Io.{ReadsAtMost};
 ghost use Rattle.std.specs.Io.KnownBytes.{ReadConsumes};
 ghost use Rattle.rdlpp_source.specs.Counts.{Counts};
-ghost use Rattle.rdlpp_source.specs.Sources.{is_device, is_no_memory};
+ghost use Rattle.rdlpp_source.specs.Sources.{is_absent, is_device, is_no_memory};
 ghost use Rattle.rdlpp_source.specs.Search.{candidates, joined_path};
-ghost use Rattle.rdlpp_source.specs.Sources.{is_absent};
 
 use crate::{
     FileId, FilePair, FileSources, Found, SearchedFolders, SourceFault, Sources, candidate,
@@ -105,7 +104,7 @@ impl<'r, R: Files + Input> Folders<'r, R> {
     /// to open, and standard input for one that has its reader.
     ///
     /// # Errors
-    /// There was no memory for the folders.
+    /// `AllocError` where there was no memory for the folders.
     pub fn new(rt: &'r R, alloc: Global, folders: &[&str]) -> Result<Folders<'r, R>, AllocError>
         ensures folders { IfOk result (λ made. include_folders made ≡ map (λ folder. folder.now) folders.now) }
         ensures failures { IfOk result (λ made. device_failures made ≡ 0) }

@@ -86,7 +86,7 @@ impl Table {
     /// An empty table that takes `definition_bytes` bytes and `definitions` macros.
     ///
     /// # Errors
-    /// There was no memory for as many bytes, for as many entries, or for an index of them.
+    /// `AllocError` where there was no memory for as many bytes, for as many entries, or for an index of them.
     pub fn new(alloc: Global, limits: &Limits) -> Result<Table, AllocError>
         requires { AreInRange limits.now }
         ensures { IfOk result (λ table. table ≡ record { macros = []; most_bytes = limits.now.definition_bytes; most_macros = limits.now.definitions }) }
