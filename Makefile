@@ -38,12 +38,8 @@ test: ## the gate (every proof, the must-fail edits, the stored runs), and then 
 # The library for C, where the tools for it are there: without them the checks over it are skipped.
 library := $(if $(shell checks/c/missing_tools),,out/librdlpp_c.a)
 
-check: out/rdlpp $(library) crates/rdlpp_refusals/out/rdlpp_refusals ## run the built program over files, streams, examples, refused command lines and refused memory
+check: out/rdlpp $(library) ## run the built program over files, streams, examples, refused command lines and refused memory
 	@checks/all
-
-crates/rdlpp_refusals/out/rdlpp_refusals: $(call sources,rdlpp_refusals)
-	@cd crates/rdlpp_refusals && rt run < stdin > /dev/null
-	@touch $@
 
 c: out/librdlpp_c.a ## prove and build the library for C, which becomes out/librdlpp_c.a and out/librdlpp_c.so
 

@@ -9,7 +9,7 @@ import subprocess
 from running import ROOT, Outcome
 
 COMPILER = os.environ.get("CC", "gcc")
-COUNTS = struct.Struct("=4Q")
+COUNTS = struct.Struct("=3Q")
 
 
 class Growths:
@@ -23,8 +23,7 @@ class Growths:
         self.made = subprocess.run([COMPILER, *flags, str(source), "-ldl"], capture_output=True, text=True)
 
     def run(self, words, folder, given, first=0, last=0):
-        """The outcome, and how many growths were asked for, how many refused, how many blocks were kept, and how many
-        bytes were asked for."""
+        """The outcome, and how many growths were asked for, how many refused, and how many blocks were kept."""
         more = {"LD_PRELOAD": str(self.library), "GROWTHS": str(self.counts), "REFUSED": f"{first} {last}"}
         done = subprocess.run(
             words, cwd=folder, input=given, capture_output=True, timeout=60, env={**os.environ, **more}

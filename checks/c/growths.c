@@ -1,7 +1,6 @@
 /* Loaded in front of the C library: counts the blocks that a program asks for, and refuses some of them.
-   GROWTHS names a file of four 64-bit numbers, which are kept up to date: how many growths were asked for, how
-   many were refused, how many blocks are out, and how many bytes the growths asked for, all together. REFUSED is
-   the first growth that is refused and the last one. */
+   GROWTHS names a file of three 64-bit numbers, which are kept up to date: how many growths were asked for, how
+   many were refused, and how many blocks are out. REFUSED is the first growth that is refused and the last one. */
 #define _GNU_SOURCE
 #include <dlfcn.h>
 #include <errno.h>
@@ -16,7 +15,6 @@ struct counts {
     uint64_t asked;
     uint64_t refused;
     uint64_t out;
-    uint64_t bytes;
 };
 
 static struct counts unread;
@@ -52,17 +50,16 @@ __attribute__((constructor)) static void begin(void)
     if (counts == MAP_FAILED) {
         _exit(99);
     }
-    counts->asked = counts->refused = counts->out = counts->bytes = 0;
+    counts->asked = counts->refused = counts->out = 0;
 }
 
-/* Counts a growth by so many bytes, and tells whether it is refused. */
-static int is_refused(size_t size)
+/* Counts a growth, and tells whether it is refused. */
+static int is_refused(void)
 {
     if (next_malloc == NULL) {
         find_next();
     }
     counts->asked += 1;
-    counts->bytes += size;
     if (counts->asked < first || last < counts->asked) {
         return 0;
     }
@@ -73,21 +70,21 @@ static int is_refused(size_t size)
 
 void *malloc(size_t size)
 {
-    void *block = is_refused(size) ? NULL : next_malloc(size);
+    void *block = is_refused() ? NULL : next_malloc(size);
     counts->out += block != NULL;
     return block;
 }
 
 void *calloc(size_t count, size_t size)
 {
-    void *block = is_refused(count * size) ? NULL : next_calloc(count, size);
+    void *block = is_refused() ? NULL : next_calloc(count, size);
     counts->out += block != NULL;
     return block;
 }
 
 void *realloc(void *old, size_t size)
 {
-    void *block = is_refused(size) ? NULL : next_realloc(old, size);
+    void *block = is_refused() ? NULL : next_realloc(old, size);
     counts->out += old == NULL && block != NULL;
     return block;
 }
