@@ -4,7 +4,7 @@
  * NAME
  *     rdlpp_standard_limits, rdlpp_standard_request, rdlpp_preprocess,
  *     rdlpp_open, rdlpp_reopen, rdlpp_read, rdlpp_read_mapped, rdlpp_position, rdlpp_definitions, rdlpp_notes, rdlpp_close,
- *     rdlpp_give, rdlpp_give_part, rdlpp_give_once, rdlpp_give_absent, rdlpp_give_failed,
+ *     rdlpp_give, rdlpp_give_part, rdlpp_give_once, rdlpp_lend, rdlpp_give_absent, rdlpp_give_failed,
  *     rdlpp_fault_text, rdlpp_version
  *
  * LINKING
@@ -12,8 +12,8 @@
  *     and rdlpp.pc says how an installed one is linked. Their only global names are those below.
  *
  * OWNERSHIP
- *     What a pointer leads to is lent for the call. The library keeps no pointer when a call returns,
- *     and nothing has to be freed but what an open handle owns. What a call takes by `const` it only reads. While a call runs,
+ *     What a pointer leads to is lent for the call. The library keeps no pointer when a call returns, but that to a
+ *     text which rdlpp_lend lends, and nothing has to be freed but what an open handle owns. What a call takes by `const` it only reads. While a call runs,
  *     nobody else writes what was lent, and nobody else reads the buffers that it writes; these lie
  *     apart from each other and from all that is lent by `const`.
  *
@@ -43,7 +43,7 @@
  *     handle owns. Beside lists as long as the arrays that were lent, and the definitions, it holds at most
  *     definition_bytes + argument_bytes + (includes + 1) * line_bytes bytes of text, and tables of fixed
  *     size; the output goes straight to `out`. An open handle holds copies of the arrays that were lent
- *     and of all that it was given, and that same text and those tables. Of what was given by rdlpp_give_once
+ *     and of all that it was given, but for the texts of rdlpp_lend, and that same text and those tables. Of what was given by rdlpp_give_once
  *     it holds the texts that are being read, each as often as it is open, and the one that was given last.
  *     rdlpp_read and rdlpp_read_mapped ask for no memory; rdlpp_reopen of an open handle with the limits by which
  *     it was opened asks for what it copies of the request and for no more, and holds what the handle held
@@ -278,7 +278,7 @@ rdlpp_outcome rdlpp_reopen(
  *
  * Where the request has `asks`, the answer is RDLPP_WANTED where a source is needed of which nothing is
  * known: its path is told in `name`, and its length in `name_length` of the answer. The caller tells what is
- * there by rdlpp_give, rdlpp_give_once, rdlpp_give_absent or rdlpp_give_failed, and reads on. Where it reads
+ * there by rdlpp_give, rdlpp_give_once, rdlpp_lend, rdlpp_give_absent or rdlpp_give_failed, and reads on. Where it reads
  * on without, the same source is asked for again, and nothing changes. The paths that are asked for are those
  * that a search tries, in order: the name in the folder of the including source, then in each include folder.
  */
@@ -307,7 +307,7 @@ uint32_t rdlpp_give(
  * behind it, as behind the parts before it. So a file is given while it is read, and the last call may give no more
  * bytes. `more` is about how many bytes will follow, for which memory is asked at once; it may be 0.
  *
- * The parts belong to the next source that is told, by rdlpp_give, rdlpp_give_once, rdlpp_give_absent or
+ * The parts belong to the next source that is told, by rdlpp_give, rdlpp_give_once, rdlpp_lend, rdlpp_give_absent or
  * rdlpp_give_failed, whatever the answer: none is left then.
  *
  * The answer is RDLPP_WHOLE; RDLPP_NO_MEMORY where memory was refused, and RDLPP_CLOSED where the handle is closed: with
@@ -329,6 +329,16 @@ uint32_t rdlpp_give_part(rdlpp_handle *handle, const char *part, size_t part_len
  * that was given last by this call isn't kept any longer either.
  */
 uint32_t rdlpp_give_once(
+    rdlpp_handle *handle,
+    const char *path, size_t path_length,
+    const char *text, size_t text_length);
+
+/*
+ * Tells a handle the text of the source at `path`, as rdlpp_give does, with its answers, but copies nothing of the text: it is lent
+ * until the handle is closed, or opened again. Until then nobody changes or frees it. Parts that were given before don't
+ * stand in front of it.
+ */
+uint32_t rdlpp_lend(
     rdlpp_handle *handle,
     const char *path, size_t path_length,
     const char *text, size_t text_length);

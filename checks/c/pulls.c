@@ -65,6 +65,11 @@ static uint32_t give_once(rdlpp_handle *handle, const char *path, const char *te
     return rdlpp_give_once(handle, path, strlen(path), text, strlen(text));
 }
 
+static uint32_t lend(rdlpp_handle *handle, const char *path, const char *text)
+{
+    return rdlpp_lend(handle, path, strlen(path), text, strlen(text));
+}
+
 static uint32_t give_part(rdlpp_handle *handle, const char *part, size_t more)
 {
     return rdlpp_give_part(handle, part, strlen(part), more);
@@ -367,6 +372,24 @@ static void leaves_no_part(void)
     rdlpp_close(&handle);
 }
 
+/* A text that is lent is read where it stands, as often as it is included, and with no part in front of it. */
+static void lends_what_stands(void)
+{
+    rdlpp_handle handle = RDLPP_CLOSED_HANDLE;
+    rdlpp_outcome outcome;
+    open_asking(&handle);
+    check(lend(&handle, "\xff", "x") == RDLPP_BAD_TEXT, "a path that isn't UTF-8");
+    check(give_part(&handle, "lost", 0) == RDLPP_WHOLE, "a part in front of what is lent");
+    check(lend(&handle, "m", "`include \"i\"\n`include \"i\"\n") == RDLPP_WHOLE, "a main text that is lent");
+    outcome = read_some(&handle);
+    check(wants(&outcome, "i", 0) && lend(&handle, "i", "one") == RDLPP_WHOLE, "an included source that is lent");
+    check(lend(&handle, "i", "two") == RDLPP_WHOLE && give(&handle, "m", "two") == RDLPP_WHOLE, "others of these paths");
+    outcome = read_some(&handle);
+    check(outcome.status == RDLPP_WHOLE && gave(&outcome, "one\n\none\n\n"), "the first of each");
+    rdlpp_close(&handle);
+    check(lend(&handle, "m", "x") == RDLPP_CLOSED, "a closed handle");
+}
+
 /* Any byte of a text that changes is seen, and so is any length. */
 static void sees_each_change(size_t length)
 {
@@ -511,6 +534,7 @@ int main(int count, char **words)
     gives_once_what_is_known();
     gives_by_parts();
     leaves_no_part();
+    lends_what_stands();
     sees_each_change(is_short ? 9 : 67);
     asks_with_short_buffers();
     asks_many_times(is_short ? 100 : 10000);

@@ -186,6 +186,11 @@ static rdlpp_outcome pull_once(char *out, size_t room)
     return pull_by(rdlpp_give_once, out, room);
 }
 
+static rdlpp_outcome pull_lent(char *out, size_t room)
+{
+    return pull_by(rdlpp_lend, out, room);
+}
+
 /* Gives a text by parts of two bytes. */
 static uint32_t give_parts(rdlpp_handle *handle, const char *path, size_t path_length, const char *text, size_t length)
 {
@@ -311,6 +316,6 @@ static int reopens(void)
 int main(void)
 {
     return refuse_each(call) > 8 && refuse_each(read_all) > 8 && refuse_each(pull_all) > 8
-            && refuse_each(pull_once) > 8 && refuse_each(pull_parts) > 8 && refuse_each(open_twice) > 16 && give_again() > 4 && reopens() && reserves()
+            && refuse_each(pull_once) > 8 && refuse_each(pull_lent) > 8 && refuse_each(pull_parts) > 8 && refuse_each(open_twice) > 16 && give_again() > 4 && reopens() && reserves()
         ? EXIT_SUCCESS : EXIT_FAILURE;
 }

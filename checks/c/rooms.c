@@ -1,5 +1,6 @@
 /* Counts the memory that an opening asks for: beside what is copied of the request, and the block of the handle, it has the
-   bytes that the limits come to, in at most `includes + 9` blocks; reads ask for none. */
+   bytes that the limits come to, in at most `includes + 9` blocks; reads ask for none. And that which a text asks for: a lent
+   one for its path alone. */
 #include "rdlpp.h"
 
 #include <stdbool.h>
@@ -68,7 +69,7 @@ static const size_t numbers[LIMITS][3] = {
 
 /* The bytes that are kept of a definition beside its text, of an open source in memory beside its line, of an open text of a
    macro, of an actual, of an open conditional, and of an item in the index of the definitions. */
-enum { DEFINITION = 80, SOURCE = 2224, TEXT = 64, ACTUAL = 16, CONDITION = 16, ITEM = 2 };
+enum { DEFINITION = 80, SOURCE = 2240, TEXT = 64, ACTUAL = 16, CONDITION = 16, ITEM = 2 };
 /* The most actuals of a call, and the fewest bytes of a definition's text that take two more items in the index. */
 enum { ACTUALS = 255, PLACED = 4 };
 /* The groups of the index, and the slack of each: so many items, and one for so many definitions. */
@@ -155,7 +156,7 @@ static bool has_room(const size_t limits[LIMITS])
     if (handle_bytes == 0) {
         handle_bytes = beside;
     }
-    if (engine.blocks > 1 && engine.blocks <= limits[INCLUDES] + 10 && beside == handle_bytes && beside < 10000) {
+    if (engine.blocks > 1 && engine.blocks <= limits[INCLUDES] + 10 && beside == handle_bytes && beside < 20000) {
         return true;
     }
     fprintf(stderr, "rooms.c: %zu blocks, %zu bytes beside the limits', which are", engine.blocks, beside);
@@ -164,6 +165,37 @@ static bool has_room(const size_t limits[LIMITS])
     }
     fprintf(stderr, "\n");
     return false;
+}
+
+/* The bytes that a call asks for by which a text is told; none where it or the reads behind it fail. */
+static size_t bytes_of(uint32_t (*tells)(rdlpp_handle *, const char *, size_t, const char *, size_t))
+{
+    static char lines[100000];
+    rdlpp_request request = rdlpp_standard_request();
+    rdlpp_handle handle = RDLPP_CLOSED_HANDLE;
+    char out[256], word[1];
+    size_t before, bytes = 0;
+    rdlpp_outcome outcome;
+    memset(lines, '\n', sizeof lines);
+    request.asks = true;
+    request.path = "m";
+    request.path_length = 1;
+    if (rdlpp_open(&request, word, 0, word, 0, &handle).status != RDLPP_WHOLE) {
+        return 0;
+    }
+    before = asked.bytes;
+    if (tells(&handle, "m", 1, lines, sizeof lines) == RDLPP_WHOLE) {
+        bytes = asked.bytes - before;
+    }
+    before = 0;
+    is_refusing = true;
+    do {
+        outcome = rdlpp_read(&handle, out, sizeof out, word, 0, word, 0);
+        before += outcome.length;
+    } while (outcome.status == RDLPP_MORE);
+    is_refusing = false;
+    rdlpp_close(&handle);
+    return outcome.status == RDLPP_WHOLE && before == sizeof lines ? bytes : 0;
 }
 
 /* The standard limits, each limit alone at its least, doubled and at its greatest, and all of them at once. */
@@ -187,6 +219,10 @@ int main(void)
             is_right = has_room(limits) && is_right;
         }
         limits[at] = numbers[at][STANDARD];
+    }
+    if (bytes_of(rdlpp_give) < 100000 || bytes_of(rdlpp_lend) == 0 || bytes_of(rdlpp_lend) > 2000) {
+        fprintf(stderr, "rooms.c: %zu bytes for a text that is given, %zu for one that is lent\n", bytes_of(rdlpp_give), bytes_of(rdlpp_lend));
+        is_right = false;
     }
     return is_right ? EXIT_SUCCESS : EXIT_FAILURE;
 }

@@ -115,6 +115,7 @@ int main(void)
         reads(row, out, 7, NULL, true);
         reads(row, out, 7, rdlpp_give, false);
         reads(row, out, 7, rdlpp_give_once, false);
+        reads(row, out, 7, rdlpp_lend, false);
         reads_by(&whole, row, out, 7, NULL, true);
         reads_by(&whole, row, out, 7, rdlpp_give_once, false);
         reads_by(&half, row, out, 7, NULL, false);

@@ -49,11 +49,11 @@ refused_answer (BadLimits fault) = BadLimit fault
 refused_answer NoneLeft = NoMemory
 refused_answer (Run run) = Stopped run
 
--- what sources in memory that own their texts answer: by what is known of each path
+-- what sources in memory answer whose readers share their texts: by what is known of each path
 abbrev pub owned_sources : Ghosts AskedTexts (List ℕ)
 owned_sources = record { has_known_texts = λ _. ⊤; catalog = asked_catalog; unread = unread_of; failures = failures_of; refusals = λ s. s.refusals }
 
--- options and sources that own their texts are what a call asks for
+-- options, and sources whose readers share their texts, are what a call asks for
 pub record AsksOwned (a : Asked) (options : Options) (sources : AskedTexts) : Type 0 where
   pub limits : options.limits ≡ a.limits
   pub origins : options.origins ≡ a.origins

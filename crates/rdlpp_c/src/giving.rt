@@ -2,7 +2,8 @@
 ghost use Rattle.std.specs.Prelude.{◌≡◌, IsUtf8, MatchResult};
 ghost use Rattle.std.specs.String.{string_bytes};
 ghost use Rattle.rdlpp_c.specs.Giving.{Gives, GivesOnce, GivesPart, GivesStanding, GivesText, LeavesParts, changed_path, once_status};
-ghost use Rattle.rdlpp_source.specs.declared.asked.Standing.TheVariants.{Absent as Gone, Failed};
+ghost use Rattle.rdlpp_source.specs.declared.asked.Standing.TheVariants.{Absent as Gone, Failed, Text};
+ghost use Rattle.rdlpp_source.specs.declared.shared_text.SharedText.TheVariants.{Lent};
 ghost use Rattle.rdlpp_c.specs.declared.asking.Refusal.TheVariants.{BadText};
 
 use crate::asking::{Refusal, text_of};
@@ -12,7 +13,7 @@ use crate::once::Given;
 use crate::stream::Stream;
 use crate::telling::{BAD_TEXT, CHANGED, CLOSED, NO_MEMORY, WHOLE};
 use arrayvec::ArrayString;
-use rdlpp_source::{AskedTexts, Standing};
+use rdlpp_source::{AskedTexts, SharedText, Standing};
 use std::alloc::{AllocError, Global};
 use std::mem::replace;
 
@@ -82,17 +83,28 @@ pub extern "C" fn rdlpp_give_once(
     status
 }
 
+/// Tells an open output the text of the source at `path`, as `rdlpp_give` does, but copies nothing of it: the text stands, as it is,
+/// until the handle is closed or opened again, by a promise of the caller. No part stands in front of it.
+///
+/// The answer is as of `rdlpp_give`.
+#[unsafe(no_mangle)]
+pub extern "C" fn rdlpp_lend(
+    alloc: Global,
+    handle: &mut Handle,
+    path: &[u8],
+    text: &'static [u8],
+) -> u32
+    ensures { Gives (GivesStanding path.now (Text (Lent text.entry))) handle.old.slot.value handle.new.slot.value result }
+{
+    tell(alloc, handle, path, Standing::Text(SharedText::Lent(text)))
+}
+
 /// Tells an open output that there is no source at `path`, as `rdlpp_give` does: a search goes on behind it.
 #[unsafe(no_mangle)]
 pub extern "C" fn rdlpp_give_absent(alloc: Global, handle: &mut Handle, path: &[u8]) -> u32
     ensures { Gives (GivesStanding path.now Gone) handle.old.slot.value handle.new.slot.value result }
 {
-    let Some(mut stream) = take(alloc, handle) else {
-        return CLOSED;
-    };
-    let status = give(alloc, &mut stream, path, Standing::Absent);
-    put(handle, stream);
-    status
+    tell(alloc, handle, path, Standing::Absent)
 }
 
 /// Tells an open output that the source at `path` can't be opened, as `rdlpp_give` does: a search ends there
@@ -101,10 +113,17 @@ pub extern "C" fn rdlpp_give_absent(alloc: Global, handle: &mut Handle, path: &[
 pub extern "C" fn rdlpp_give_failed(alloc: Global, handle: &mut Handle, path: &[u8]) -> u32
     ensures { Gives (GivesStanding path.now Failed) handle.old.slot.value handle.new.slot.value result }
 {
+    tell(alloc, handle, path, Standing::Failed)
+}
+
+// Tells an open output what stands at a path, and answers the status.
+fn tell(alloc: Global, handle: &mut Handle, path: &[u8], standing: Standing) -> u32
+    ensures { Gives (GivesStanding path.now standing) handle.old.slot.value handle.new.slot.value result }
+{
     let Some(mut stream) = take(alloc, handle) else {
         return CLOSED;
     };
-    let status = give(alloc, &mut stream, path, Standing::Failed);
+    let status = give(alloc, &mut stream, path, standing);
     put(handle, stream);
     status
 }

@@ -1,13 +1,14 @@
 // The texts of a request, which sources own.
 ghost use Rattle.std.specs.Prelude.{◌≡◌, ◌++◌, IfOk, IsUtf8, MatchResult};
 ghost use Rattle.std.specs.List.{All};
+ghost use Rattle.rdlpp_source.specs.SharedText.{text_bytes};
 ghost use Rattle.rdlpp_c.specs.Knowing.{AddsText, KnowsTexts};
 ghost use Rattle.rdlpp_c.specs.declared.asking.Refusal.TheVariants.{BadText};
 
 use crate::arrays::Text;
 use crate::asking::Refusal;
 use crate::giving::owned_path;
-use rdlpp_source::{AskedTexts, Standing};
+use rdlpp_source::{AskedTexts, SharedText, Standing};
 use std::alloc::{AllocError, Global};
 use std::rc::Rc;
 
@@ -56,15 +57,15 @@ pub(crate) fn shared_text(
     alloc: Global,
     parts: Vec<u8>,
     text: &[u8],
-) -> Result<Rc<Vec<u8>, Global>, AllocError>
-    ensures { IfOk result (λ shared. shared.value.items ≡ parts.items ++ text.now) }
+) -> Result<SharedText, AllocError>
+    ensures { IfOk result (λ shared. text_bytes shared ≡ parts.items ++ text.now) }
 {
     let mut whole = parts;
     if whole.extend_from_slice(text).is_err() {
         return Err(AllocError);
     }
     match Rc::new(alloc, whole) {
-        Ok(shared) => Ok(shared),
+        Ok(shared) => Ok(SharedText::Owned(shared)),
         Err(_) => Err(AllocError),
     }
 }

@@ -25,7 +25,7 @@ mod telling;
 pub use arrays::{Definition, Folder, Limits, Request, Text};
 pub use exports::{rdlpp_fault_text, rdlpp_preprocess, rdlpp_standard_limits, rdlpp_version};
 pub use giving::{
-    rdlpp_give, rdlpp_give_absent, rdlpp_give_failed, rdlpp_give_once, rdlpp_give_part,
+    rdlpp_give, rdlpp_give_absent, rdlpp_give_failed, rdlpp_give_once, rdlpp_give_part, rdlpp_lend,
 };
 pub use handle::Handle;
 pub use loose::Loose;

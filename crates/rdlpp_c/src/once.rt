@@ -121,7 +121,7 @@ impl Once {
             return Ok(Given::Known);
         }
         let shared = shared_text(alloc, parts, text)?;
-        let mark = Mark::of(shared.as_ref().as_slice());
+        let mark = Mark::of(shared.bytes());
         if self.is_other(path, &mark) {
             sources.add(String::from_str(alloc, path)?, Standing::Failed)?;
             return Ok(Given::Other);

@@ -1,4 +1,4 @@
-// How an output is opened: the lists that a call asks for, as sources that own their texts.
+// How an output is opened: the lists that a call asks for, as sources whose readers share their texts.
 ghost use Rattle.std.specs.Prelude.{◌≡◌, Err, IfOk, IsUtf8, None, OnOk, map, MatchResult};
 ghost use Rattle.std.specs.List.{All};
 ghost use Rattle.std.specs.String.{string_bytes};

@@ -1,4 +1,4 @@
--- What sources in memory that own their texts tell, and what they ask for.
+-- What sources in memory tell whose readers share their texts, and what they ask for.
 -- A definition that names no source is this project's own.
 use Rattle.std.specs.Prelude.{◌≡◌, ℕ, ◌+◌, ◌-◌, ◌^◌, ◌==◌, min, Bool, true, false, List, [], ◌∷◌, length, map, bytes_eq, ◌&&◌, Option, None, Some, nat_lt, Result, Ok, Err, if◌then◌else◌}
 use Rattle.std.specs.List.{list_any}
@@ -11,6 +11,7 @@ use Rattle.rdlpp_source.specs.declared.sources.SourceFault.{SourceFault}
 use Rattle.rdlpp_source.specs.declared.sources.SourceFault.TheVariants.{Absent, PathTooLong, Device, NoMemory}
 use Rattle.rdlpp_source.specs.Sources.{Answer, Catalog, Missing, Overlong, Present}
 use Rattle.rdlpp_source.specs.Search.{candidates, answer_at, first_answer}
+use Rattle.rdlpp_source.specs.SharedText.{text_bytes}
 use Rattle.rdlpp_source.specs.declared.asked.AskedTexts.{AskedTexts}
 use Rattle.rdlpp_source.specs.declared.asked.Standing.{Standing}
 use Rattle.rdlpp_source.specs.declared.asked.Standing.TheVariants.{Text, Absent as Gone, Failed}
@@ -24,7 +25,7 @@ standing_at texts path = get_by_text texts.known path
 -- the text of what is known (source: this project's profile)
 abbrev pub standing_text : Option Standing → Option (List ℕ)
 standing_text None = None
-standing_text (Some (Text text)) = Some text.value.items
+standing_text (Some (Text text)) = Some (text_bytes text)
 standing_text (Some Gone) = None
 standing_text (Some Failed) = None
 
@@ -56,7 +57,7 @@ pub data Search : Type 0 where
 -- what a candidate comes to of which this is known: where nothing is, it is wanted by sources that ask, and isn't there in others; nor is it there in others
 -- where it can't be opened (source: this project's profile)
 abbrev pub known_search : Bool → List ℕ → Option Standing → Search
-known_search asks path (Some (Text text)) = Answered (Present path text.value.items)
+known_search asks path (Some (Text text)) = Answered (Present path (text_bytes text))
 known_search asks path (Some Gone) = Answered Missing
 known_search true path (Some Failed) = SearchFault
 known_search false path (Some Failed) = Answered Missing

@@ -5,6 +5,7 @@ pub mod Search
 pub mod Texts
 pub mod Counted
 pub mod Buffered
+pub mod SharedText
 pub mod Asked
 pub mod Files
 pub mod Folders

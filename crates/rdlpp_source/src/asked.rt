@@ -1,24 +1,24 @@
-// Sources in memory that own their texts, and that may ask for what they don't have.
+// Sources in memory that tell their texts, and that may ask for what they don't have.
 ghost use Rattle.std.specs.Prelude.{◌≡◌, ◌≤◌, ℕ, List, [], None, false, min, drop, length, true, OnOk, OnErr, if◌then◌else◌};
 ghost use Rattle.std.specs.Io.{ReadsAtMost};
 ghost use Rattle.std.specs.String.{string_bytes};
 ghost use Rattle.rdlpp_source.specs.Sources.{Finds, Reads, is_device, is_no_memory};
 ghost use Rattle.rdlpp_source.specs.Search.{joined_path};
+ghost use Rattle.rdlpp_source.specs.SharedText.{text_bytes};
 ghost use Rattle.rdlpp_source.specs.Counts.{Counts};
 ghost use Rattle.rdlpp_source.specs.Asked.{Answers, Comes, Adds, Ends, Stays, search_at, search_of, standing_at, wanted_of};
 
-use crate::{Found, SearchedFolders, SourceFault, Sources, candidate};
+use crate::{Found, SearchedFolders, SharedText, SourceFault, Sources, candidate};
 use arrayvec::ArrayString;
 use std::alloc::{AllocError, Global};
 use std::collections::BTreeMap;
 use std::marker::Model;
-use std::rc::Rc;
 
 /// What stands at a path.
 #[derive(Drop)]
 pub enum Standing {
-    /// A text. It is shared by those who read it.
-    Text(Rc<Vec<u8>, Global>),
+    /// A text.
+    Text(SharedText),
     /// Nothing: a search goes on after it.
     Absent,
     /// What can't be opened: a search of sources that ask ends there, as at a device that failed. In
@@ -26,7 +26,7 @@ pub enum Standing {
     Failed,
 }
 
-/// Sources in memory that own their texts, by this project's search rule, and that may ask for what
+/// Sources in memory over texts that their readers share, by this project's search rule, and that may ask for what
 /// they don't have.
 ///
 /// They tell their texts: `top` and `find` answer by what stands at each path and the order of
@@ -54,28 +54,47 @@ pub struct AskedTexts {
 /// What reads a text of `AskedTexts`.
 #[derive(Drop)]
 pub struct AskedReader {
-    text: Rc<Vec<u8>, Global>,
-    // how many bytes were read
-    from: usize,
+    text: SharedText,
+    // how many of its bytes are left
+    left: usize,
 }
 
 impl Model for AskedReader {
-    ghost use Rattle.std.specs.Prelude.{ℕ, List, ◌≤◌, drop, length};
+    ghost use Rattle.std.specs.Prelude.{ℕ, List, ◌-◌, ◌≤◌, drop, length};
+    ghost use Rattle.rdlpp_source.specs.SharedText.{text_bytes};
 
     ghost Value = { List ℕ };
 
-    ghost view = { λ r. drop r.from r.text.value.items };
+    ghost view = { λ r. drop (length (text_bytes r.text) - r.left) (text_bytes r.text) };
 
-    ghost invariant = { λ r. r.from ≤ length r.text.value.items };
+    ghost invariant = { λ r. r.left ≤ length (text_bytes r.text) };
 }
 
 impl AskedReader {
+    // One that has read nothing yet.
+    fn of(text: SharedText) -> AskedReader
+        ensures { result ≡ text_bytes text }
+    {
+        AskedReader {
+            left: text.bytes().len(),
+            text,
+        }
+    }
+
+    // The bytes that are left.
+    fn rest(&self) -> &[u8]
+        ensures { result.now ≡ self.now }
+    {
+        let text = self.text.bytes();
+        &text[text.len() - self.left..]
+    }
+
     // Passes so many bytes.
     fn pass(&mut self, len: usize)
         requires { len ≤ length self.old }
         ensures { self.new ≡ drop len self.old }
     {
-        self.from += len;
+        self.left -= len;
     }
 }
 
@@ -160,12 +179,12 @@ impl AskedTexts {
             Err(_) => return Err(Stop::Absent),
         };
         match self.known.get(path.as_str()) {
-            Some(Standing::Text(text)) => match text.clone() {
-                Ok(text) => Ok(Found {
+            Some(Standing::Text(text)) => match text.share() {
+                Some(text) => Ok(Found {
                     path,
-                    reader: AskedReader { text, from: 0 },
+                    reader: AskedReader::of(text),
                 }),
-                Err(_) => Err(Stop::NoMemory),
+                None => Err(Stop::NoMemory),
             },
             Some(Standing::Absent) => Err(Stop::Absent),
             Some(Standing::Failed) => Err(self.if_asks(Stop::Failed)),
@@ -280,10 +299,9 @@ impl Sources for AskedTexts {
         ensures count { result ≡ Ok (min (length to.old) (length reader.old)) }
         ensures unchanged { self.new ≡ self.old }
     {
-        let text: &Vec<u8> = reader.text.as_ref();
-        let left = &text[reader.from..];
-        let len = to.len().min(left.len());
-        to[..len].copy_from_slice(&left[..len]);
+        let rest = reader.rest();
+        let len = to.len().min(rest.len());
+        to[..len].copy_from_slice(&rest[..len]);
         reader.pass(len);
         Ok(len)
     }

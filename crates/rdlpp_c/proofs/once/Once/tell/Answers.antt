@@ -7,7 +7,7 @@ use Rattle.rdlpp_c.proofs.once.Once.tell.Goals as goal
 pub returns-clause-gives : goal.returns-clause-gives
 returns-clause-gives c =
     let marked : c.of-mark.result ≡ mark_of (c.args.parts.items ++ c.args.text.now)
-    = c.of-mark.ensures ∙ ap mark_of (c.as_slice.ensures.value ∙ ap (λ text. text.items) c.as_ref.ensures ∙ c.in_ok-shared.ensures) in (
+    = c.of-mark.ensures ∙ ap mark_of (c.bytes.ensures ∙ c.in_ok-shared.ensures) in (
       sym c.is_open.ensures ∙ c.if-not-is_open.false,
       sym (c.is_other.ensures ∙ ap (λ (m : Mark). is_other (mark_at c.args.self.now c.args.path.now) m) marked) ∙ c.if-is_other.false,
       record {

@@ -1,7 +1,7 @@
 use Rattle.std.proofs.Common.{Some, ap, sym, ◌∙◌, option_map}
 use Rattle.rdlpp_c.specs.Streaming.{boxed}
 use Rattle.rdlpp_c.proofs.Onces.{gives_held}
-use Rattle.rdlpp_c.proofs.giving.rdlpp_give_failed.Goals as goal
+use Rattle.rdlpp_c.proofs.giving.tell.Goals as goal
 
 pub returns : goal.returns
 returns c =
