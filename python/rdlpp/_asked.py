@@ -12,19 +12,13 @@ import os
 import stat
 from typing import Any, Callable, Mapping, Optional, Protocol, Tuple, Union
 
-from ._written import Written
-
 # What a mapping and a callable may give as a text.
 Bytes = Union[bytes, bytearray, memoryview]
 # Which file one is, by whatever path it is opened: its device, and its number there.
 FileId = Tuple[int, int]
-# Gives a part of a text, which is copied: where it stands, how long it is, and about how many bytes follow.
-GivePart = Callable[[int, int, int], None]
-
 LF, NUL = b"\n\0"
 NUL_IN_NAME = "file name contained an unexpected NUL byte"
-# How much of a large file is read at once: it stays in the processor's cache until the library has copied it, and a signal
-# is seen between two such parts.
+# How much of a file is read at once at least, where its size isn't known or less is left.
 PART = 262_144
 # The size from which on a file is given in parts: a bytes object of that size is made of new pages each time.
 LARGE = 131_072
@@ -35,10 +29,25 @@ SMALL = 32_768
 # How a file is opened.
 HOW = os.O_RDONLY | os.O_CLOEXEC
 
-_part = ctypes.c_char * PART
 _last = ctypes.CDLL(None).memrchr
 _last.restype = ctypes.c_void_p
 _last.argtypes = [ctypes.c_void_p, ctypes.c_int, ctypes.c_size_t]
+
+
+class Parts(Protocol):
+    """Takes a text part by part, while it is read.
+
+    Attributes:
+        most: how many bytes a part has at most. A signal is seen between two of them.
+    """
+
+    most: int
+
+    def room(self, least: int, more: int) -> int:
+        """The address of room for the next part, which has at most so many bytes; about so many more follow behind it."""
+
+    def take(self, length: int, more: int) -> None:
+        """Takes so many bytes that stand there; about so many more follow."""
 
 
 class Asked(Protocol):
@@ -52,9 +61,8 @@ class Asked(Protocol):
     stays: bool
     file: Optional[FileId]
 
-    def text_at(self, path: bytes, written: Written, give_part: GivePart) -> Optional[Bytes]:
-        """The text at a path in UTF-8, or what follows the parts of it that were given. These may stand in the room that it is
-        lent, after what was written."""
+    def text_at(self, path: bytes, parts: Parts) -> Optional[Bytes]:
+        """The text at a path in UTF-8, or what follows the parts of it that were taken."""
 
 
 class Unreadable(Exception):
@@ -98,7 +106,7 @@ class Disk:
         self._line = line_bytes
         self._tells_files = tells_files
 
-    def text_at(self, path: bytes, written: Written, give_part: GivePart) -> Optional[bytes]:
+    def text_at(self, path: bytes, parts: Parts) -> Optional[bytes]:
         if LF in path:
             return None
         if NUL in path:
@@ -112,7 +120,7 @@ class Disk:
                 return None
             raise Unreadable(error, False) from error
         try:
-            return self._text(file, written, give_part)
+            return self._text(file, parts)
         except OSError as error:
             if error.errno is None:
                 raise
@@ -120,7 +128,7 @@ class Disk:
         finally:
             os.close(file)
 
-    def _text(self, file: int, written: Written, give_part: GivePart) -> bytes:
+    def _text(self, file: int, parts: Parts) -> bytes:
         """What a run can use of an open file, which may grow meanwhile."""
         self.file = None
         if not self._tells_files:
@@ -138,22 +146,23 @@ class Disk:
                 if len(text) == told.st_size or not os.read(file, 1):
                     return text
                 os.lseek(file, 0, os.SEEK_SET)
-        self._give_large(file, told.st_size, written, give_part)
+        self._give_large(file, told.st_size, parts)
         return b""
 
-    def _give_large(self, file: int, size: int, written: Written, give_part: GivePart) -> None:
+    def _give_large(self, file: int, size: int, parts: Parts) -> None:
         """Gives the same of a large file, or of one whose size isn't known, part by part while it is read."""
         size = min(size, self._most)
         length = line = 0
         while length < self._most and line <= self._line:
-            place = written.end(PART)
-            count = os.readv(file, [memoryview(_part.from_address(place))[: self._most - length]])
+            part = min(max(size - length, PART), parts.most)
+            place = parts.room(part, max(size - length - part, 0))
+            count = os.readv(file, [(ctypes.c_char * min(part, self._most - length)).from_address(place)])
             if not count:
                 break
             last = _last(place, LF, count)
             line = place + count - 1 - last if last else line + count
             length += count
-            give_part(place, count, max(size - length, 0))
+            parts.take(count, max(size - length, 0))
 
 
 def _small_text(file: int) -> Optional[bytes]:
@@ -196,7 +205,7 @@ class Checked:
         self.file: Optional[FileId] = None
         self._text_at, self._name, self._wanted = text_at, name, wanted
 
-    def text_at(self, path: bytes, written: Written, give_part: GivePart) -> Optional[Bytes]:
+    def text_at(self, path: bytes, parts: Parts) -> Optional[Bytes]:
         shown = path.decode()
         try:
             text = self._text_at(shown)

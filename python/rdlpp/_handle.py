@@ -55,13 +55,14 @@ class OwnedHandle:
 
     def open(self, request: Request, pieces: bool) -> library.Outcome:
         """Opens it anew, in the memory that it has where the limits are the same."""
-        texts, folders = library.pairs(request.texts), library.folders(request.folders)
+        texts = [] if request.main is None else [(request.path, request.main)]
+        pairs, folders = library.pairs(texts), library.folders(request.folders)
         definitions = library.pairs(request.definitions)
         given = self._request
         if request.limits is not self._limits:
             self._take_limits(request.limits)
         given.origins, given.pieces = request.origins, pieces
-        given.texts, given.texts_length = ctypes.addressof(texts), len(request.texts)
+        given.texts, given.texts_length = ctypes.addressof(pairs), len(texts)
         given.folders, given.folders_length = ctypes.addressof(folders), len(request.folders)
         given.definitions, given.definitions_length = ctypes.addressof(definitions), len(request.definitions)
         given.path, given.path_length = request.path, len(request.path)

@@ -1,7 +1,7 @@
 """An output that is read from the library, which asks for the sources that it needs."""
 
 import ctypes
-from typing import Dict, List, Optional, Tuple, Union
+from typing import Any, Dict, List, Optional, Tuple, Union
 
 from . import _library as library
 from ._asked import FileId, Unreadable
@@ -9,8 +9,9 @@ from ._faults import Fault, FaultKind
 from ._handle import BESIDE, CLOSED, MOST_GIVEN, kept_here, taken
 from ._limits import OPTIONS, Limits
 from ._output import Position
+from ._parts import Copied
 from ._request import Request
-from ._written import Written
+from ._written import Kept, Written
 
 # What a note begins with where it is written.
 NOTE = "rdlpp: note: "
@@ -22,7 +23,7 @@ class Reading:
     Attributes:
         is_over: whether nothing is left to read.
         fault: the fault that ended it, once it was read up to there.
-        text_bytes: how many bytes the texts have that were given.
+        text_bytes: how many bytes the texts have that were given or lent.
         runs: the lines of the line map for what `read_mapped` wrote.
     """
 
@@ -36,8 +37,8 @@ class Reading:
         # the sources that were opened: by each file the path by which it was opened first, by each other path itself
         self._sources: Dict[Union[FileId, bytes], bytes] = {}
         self.text_bytes = 0
-        for _, text in request.texts:
-            self.text_bytes += len(text)
+        # the texts that are lent to the handle, and stand until it is closed
+        self._lent: List[object] = []
         # how many bytes the handle was given beside them
         self._given = len(request.path) + BESIDE
         self.runs: List[bytes] = []
@@ -51,11 +52,17 @@ class Reading:
             self._given += len(name) + len(body) + BESIDE
         for folder in request.folders:
             self._given += len(folder) + BESIDE
-        outcome = self._handle.open(request, pieces)
+        main = request.main
+        lends = main is not None and len(main) > MOST_GIVEN
+        outcome = self._handle.open(request._replace(main=None) if lends else request, pieces)
         if outcome.status == library.STOPPED:
             raise self._fault(outcome)
         if outcome.status != library.WHOLE:
             _raise_refusal(outcome.status)
+        if main is not None:
+            self.text_bytes = len(main)
+            if lends:
+                self._lend(request.path, main, main, len(main))
 
     def read(self, written: Written, most: int) -> None:
         """Reads once, at most so many bytes, and no more than there is room for.
@@ -102,6 +109,7 @@ class Reading:
             self._home[:] = [handle]
         else:
             handle.close()
+        self._lent.clear()
 
     def __enter__(self) -> "Reading":
         return self
@@ -122,8 +130,10 @@ class Reading:
             return
         path, asked = self._handle.buffers[: outcome.name_length], self._asked
         self._given += len(path) + BESIDE
+        is_main = path == self._main
+        parts: Union[Kept, Copied] = Kept() if is_main else Copied(written, self._give_part)
         try:
-            text = asked.text_at(path, written, self._give_part)
+            text = asked.text_at(path, parts)
         except Unreadable as unreadable:
             self._unreadable = path.decode(), unreadable
             if unreadable.is_open:
@@ -134,15 +144,30 @@ class Reading:
             _raise_refusal(library.give_absent(self._handle.at, path, len(path)))
             return
         self._sources.setdefault(asked.file or path, path)
+        if isinstance(parts, Kept) and parts.filled:
+            self._tell(path, parts, ctypes.c_void_p(parts.place), parts.filled, True)
+            return
         place, length = (text, len(text)) if isinstance(text, bytes) else library.lent(text)
-        self.text_bytes += length
         # the main text is open up to the end
-        give = library.give if asked.stays or path == self._main else library.give_once
+        self._tell(path, text, place, length, asked.stays or is_main)
+
+    def _tell(self, path: bytes, text: object, place: Any, length: int, stays: bool) -> None:
+        """Tells the library a text, which is copied; but one that stays to the end, and is long and never changes, is lent."""
+        self.text_bytes += length
+        if stays and length > MOST_GIVEN and isinstance(text, (bytes, Kept)):
+            self._lend(path, text, place, length)
+            return
         handle = self._handle
         handle.path_length.value, handle.text_length.value = len(path), length
+        give = library.give if stays else library.give_once
         status = give(handle.at, path, handle.path_length, place, handle.text_length)
         if status != library.WHOLE and status != library.CHANGED:
             _raise_refusal(status)
+
+    def _lend(self, path: bytes, text: object, place: Any, length: int) -> None:
+        """Lends the library a text, which isn't copied. A handle that has one is closed when this is."""
+        self._lent.append(text)
+        _raise_refusal(library.lend(self._handle.at, path, len(path), place, length))
 
     def _give_part(self, place: int, length: int, more: int) -> None:
         """Gives the library a part of a text, which is copied."""

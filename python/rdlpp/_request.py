@@ -19,10 +19,14 @@ STANDARD = Limits()
 
 
 class Request(NamedTuple):
-    """What a call asks for."""
+    """What a call asks for.
+
+    Attributes:
+        main: the main text, where it is given and not its path alone.
+    """
 
     path: bytes
-    texts: List[Tuple[bytes, bytes]]
+    main: Optional[bytes]
     folders: List[bytes]
     definitions: List[Tuple[bytes, bytes]]
     limits: Limits
@@ -54,13 +58,13 @@ def _path(name: str, value: Any) -> bytes:
     return _utf_8(name, _path_text(name, value))
 
 
-def _main(source: Any) -> Tuple[bytes, List[Tuple[bytes, bytes]]]:
+def _main(source: Any) -> Tuple[bytes, Optional[bytes]]:
     """The path of the main text, and that text where it is given."""
     if isinstance(source, (bytes, bytearray, memoryview)):
-        return TEXT_PATH, [(TEXT_PATH, bytes(source))]
+        return TEXT_PATH, bytes(source)
     if not isinstance(source, (str, os.PathLike)):
         raise _wrong("source", "a path (str or os.PathLike) or a text (bytes)", source)
-    return _path("source", source), []
+    return _path("source", source), None
 
 
 def _folders(include_dirs: Any) -> List[bytes]:
@@ -134,6 +138,6 @@ def request_of(
         limits.check()
     if not isinstance(origins, bool):
         raise _wrong("origins", "a bool", origins)
-    path, texts = _main(source)
+    path, main = _main(source)
     asked = _asked(files, read, limits, tells_files)
-    return Request(path, texts, _folders(include_dirs), _definitions(defines), limits, origins, asked)
+    return Request(path, main, _folders(include_dirs), _definitions(defines), limits, origins, asked)

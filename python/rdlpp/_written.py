@@ -6,7 +6,7 @@ else has it, and gives it another length by `_PyBytes_Resize`; so it is here, by
 
 import ctypes
 import sys
-from typing import cast
+from typing import Optional, cast
 
 if sys.implementation.name != "cpython":
     raise ImportError(f"rdlpp needs CPython, whose bytes objects it writes to, and this is {sys.implementation.name}")
@@ -20,9 +20,11 @@ _resize.argtypes = [ctypes.POINTER(ctypes.c_void_p), ctypes.c_ssize_t]
 _forget = ctypes.pythonapi.Py_DecRef
 _forget.restype = None
 _forget.argtypes = [ctypes.c_void_p]
-_advise = ctypes.CDLL(None).madvise
-_advise.restype = ctypes.c_int
-_advise.argtypes = [ctypes.c_void_p, ctypes.c_size_t, ctypes.c_int]
+_c = ctypes.CDLL(None)
+_advise, _reallocate, _free = _c.madvise, _c.realloc, _c.free
+_advise.restype, _advise.argtypes = ctypes.c_int, [ctypes.c_void_p, ctypes.c_size_t, ctypes.c_int]
+_reallocate.restype, _reallocate.argtypes = ctypes.c_void_p, [ctypes.c_void_p, ctypes.c_size_t]
+_free.restype, _free.argtypes = None, [ctypes.c_void_p]
 
 MARGIN = 65_536
 FEW = 1_024
@@ -35,15 +37,17 @@ LARGE = 4_194_304
 HUGE_PAGE = 2_097_152
 # At least what the memory of a large room has beside it: the head of a bytes object and that of a block of malloc.
 BESIDE = 128
+# More than what else a call holds by the standard limits, and gives back.
+SPARE = 6_291_456
 
 
 def roomy(length: int) -> int:
     """The room for an output of about this length.
 
-    It is more than the library's copy of such a text has left at the end of malloc's heap, so that it stands apart:
-    a heap that both stand in is cut back and made anew by each call.
+    A large one has no more than that it is seen to end. glibc's malloc asks the system for new pages wherever a block is larger than
+    any that was given back, and making these takes as long as the run: so an output takes the memory of the one before it.
     """
-    return length + length // 16 + MARGIN
+    return length + 1 if length >= LARGE else length + length // 16 + MARGIN
 
 
 class Written:
@@ -71,7 +75,7 @@ class Written:
         """The address behind the bytes that were written, with room for so many more at least. What stands there stays
         where room is made."""
         if self.room - self.filled < least:
-            room = max(self.filled + least, self.room + self.room // 2)
+            room = max(self.filled + least, 2 * self.room)
             self._grow(_whole_pages(room, HUGE_PAGE if self.room >= LARGE else PAGE))
         return self.place + self.filled
 
@@ -91,6 +95,42 @@ class Written:
 
     def __del__(self) -> None:
         _forget(self._held)
+
+
+class Kept:
+    """A text that is read part by part, and stays where it was read to.
+
+    Its room is as much larger as serves malloc to keep its memory, and that of the output, for the next call, though the system
+    gives no pages for what isn't written: the memory that is free in the end is less than twice the largest block.
+
+    Attributes:
+        place: where it stands.
+        filled: how many bytes were read.
+        most: how many bytes a part has at most.
+    """
+
+    most = 4_194_304
+    _room = 0
+
+    def __init__(self) -> None:
+        self.place: Optional[int] = None
+        self.filled = 0
+
+    def room(self, least: int, more: int) -> int:
+        if self._room - self.filled < least:
+            room = max(self.filled + least + more + SPARE, self._room + self._room // 2)
+            place = _reallocate(self.place, room)
+            if place is None:
+                raise MemoryError("memory was refused")
+            self.place, self._room = place, room
+            _prefer(HUGE_PAGES, place, room)
+        return cast(int, self.place) + self.filled
+
+    def take(self, length: int, more: int) -> None:
+        self.filled += length
+
+    def __del__(self) -> None:
+        _free(self.place)
 
 
 def _whole_pages(room: int, page: int) -> int:

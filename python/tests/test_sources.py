@@ -4,14 +4,20 @@ import errno
 import os
 import pathlib
 import signal
+import sys
 import tempfile
 import threading
-import tracemalloc
 import unittest
 from unittest import mock
 
 import rdlpp
 from rdlpp import FaultKind, _asked
+
+
+def resident():
+    """How many bytes of this process are in memory."""
+    with open("/proc/self/statm") as numbers:
+        return int(numbers.read().split()[1]) * os.sysconf("SC_PAGE_SIZE")
 
 
 class Asked:
@@ -80,19 +86,35 @@ class Callables(Sources):
         for text in (bytearray(b"ab"), memoryview(b"abc")[:2], memoryview(b"axbx")[::2]):
             self.assertEqual(rdlpp.preprocess("m", read=lambda path: text), b"ab")
 
-    def test_a_text_that_was_given_is_not_kept(self):
-        held = []
+    def test_a_long_text_is_not_copied(self):
+        text = b"reg a @ 0x0;\n" * 1_000_000 + b'`include "i"\n'
+        for source, read in ((text, lambda path: b"q\n"), ("m", {"m": text, "i": b"q\n"}.get)):
+            before = resident()
+            with rdlpp.stream(source, read=read) as pieces:
+                length = sum(len(piece) for piece in pieces)
+                held = resident() - before
+            self.assertEqual(length, 13_000_003)
+            self.assertLess(held, len(text) // 2)
 
-        def read(path):
-            held.append(tracemalloc.get_traced_memory()[0])
-            return b"reg a @ 0x0;\n" * 1_000_000 + b'`include "i"\n' if path == "m" else b"q\n"
+    def test_a_long_text_goes_with_the_call(self):
+        text = b"reg a @ 0x0;\n" * 1_000_000
+        before = sys.getrefcount(text)
+        for call in (rdlpp.preprocess, rdlpp.run, lambda text: b"".join(rdlpp.stream(text))):
+            call(text)
+            self.assertEqual(sys.getrefcount(text), before)
+        begun = rdlpp.stream(text)
+        next(begun)
+        self.assertGreater(sys.getrefcount(text), before)
+        begun.close()
+        self.assertEqual(sys.getrefcount(text), before)
 
-        tracemalloc.start()
-        self.addCleanup(tracemalloc.stop)
-        with rdlpp.stream("m", read=read) as pieces:
-            length = sum(len(piece) for piece in pieces)
-        self.assertEqual(length, 13_000_003)
-        self.assertLess(held[1] - held[0], 1_000_000)
+    def test_a_long_text_that_may_change_is_copied(self):
+        for kind in (bytearray, lambda text: memoryview(bytearray(text))):
+            text = kind(b"reg a @ 0x0;\n" * 200_000)
+            with rdlpp.stream("m", read=lambda path: text) as pieces:
+                first = next(pieces)
+                text[:] = b"`" * len(text)
+                self.assertEqual(first + b"".join(pieces), b"reg a @ 0x0;\n" * 200_000)
 
     def test_a_text_goes_when_it_was_read(self):
         held = []
