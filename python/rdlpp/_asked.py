@@ -12,6 +12,8 @@ import os
 import stat
 from typing import Any, Callable, Mapping, Optional, Protocol, Tuple, Union
 
+from ._written import Kept
+
 # What a mapping and a callable may give as a text.
 Bytes = Union[bytes, bytearray, memoryview]
 # Which file one is, by whatever path it is opened: its device, and its number there.
@@ -29,6 +31,8 @@ SMALL = 32_768
 # How a file is opened.
 HOW = os.O_RDONLY | os.O_CLOEXEC
 
+# room from some address on, of which no more is used than a part has
+_room = ctypes.c_char * 4_194_304
 _last = ctypes.CDLL(None).memrchr
 _last.restype = ctypes.c_void_p
 _last.argtypes = [ctypes.c_void_p, ctypes.c_int, ctypes.c_size_t]
@@ -49,6 +53,9 @@ class Parts(Protocol):
     def take(self, length: int, more: int) -> None:
         """Takes so many bytes that stand there; about so many more follow."""
 
+    def rest(self) -> Union[bytes, Kept]:
+        """What is to be told of the text when its last part was taken."""
+
 
 class Asked(Protocol):
     """What tells a source.
@@ -61,8 +68,8 @@ class Asked(Protocol):
     stays: bool
     file: Optional[FileId]
 
-    def text_at(self, path: bytes, parts: Parts) -> Optional[Bytes]:
-        """The text at a path in UTF-8, or what follows the parts of it that were taken."""
+    def text_at(self, path: bytes, parts: Parts) -> Union[Bytes, Kept, None]:
+        """The text at a path in UTF-8, or what is to be told of it when its parts were taken."""
 
 
 class Unreadable(Exception):
@@ -106,7 +113,7 @@ class Disk:
         self._line = line_bytes
         self._tells_files = tells_files
 
-    def text_at(self, path: bytes, parts: Parts) -> Optional[bytes]:
+    def text_at(self, path: bytes, parts: Parts) -> Union[bytes, Kept, None]:
         if LF in path:
             return None
         if NUL in path:
@@ -128,7 +135,7 @@ class Disk:
         finally:
             os.close(file)
 
-    def _text(self, file: int, parts: Parts) -> bytes:
+    def _text(self, file: int, parts: Parts) -> Union[bytes, Kept]:
         """What a run can use of an open file, which may grow meanwhile."""
         self.file = None
         if not self._tells_files:
@@ -147,7 +154,7 @@ class Disk:
                     return text
                 os.lseek(file, 0, os.SEEK_SET)
         self._give_large(file, told.st_size, parts)
-        return b""
+        return parts.rest()
 
     def _give_large(self, file: int, size: int, parts: Parts) -> None:
         """Gives the same of a large file, or of one whose size isn't known, part by part while it is read."""
@@ -156,7 +163,7 @@ class Disk:
         while length < self._most and line <= self._line:
             part = min(max(size - length, PART), parts.most)
             place = parts.room(part, max(size - length - part, 0))
-            count = os.readv(file, [(ctypes.c_char * min(part, self._most - length)).from_address(place)])
+            count = os.readv(file, [memoryview(_room.from_address(place))[: min(part, self._most - length)]])
             if not count:
                 break
             last = _last(place, LF, count)

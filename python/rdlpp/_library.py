@@ -6,7 +6,7 @@ from typing import Any, Callable, Sequence, Tuple, Union
 
 from ._asked import Bytes
 from ._limits import Limits
-from ._written import Written
+from ._written import Kept, Written
 
 WHOLE, STOPPED, BAD_LIMIT, BAD_TEXT, NO_MEMORY, MORE, CLOSED, WANTED, SHORT_MAP, CHANGED = range(10)
 NAME_ROOM = 1024
@@ -127,8 +127,10 @@ _fault_text = _declared("rdlpp_fault_text", ctypes.c_size_t, ctypes.c_uint32, *_
 _version = _declared("rdlpp_version", ctypes.c_size_t, *_buffer)
 
 
-def lent(text: Union[bytearray, memoryview]) -> Tuple[Any, int]:
+def lent(text: Union[bytearray, memoryview, Kept]) -> Tuple[Any, int]:
     """A text as the pointer and the length that a call takes; it is copied only where its memory can't be lent."""
+    if isinstance(text, Kept):
+        return (ctypes.c_void_p(text.place) if text.filled else b""), text.filled
     view = memoryview(text)
     if view.readonly or not view.c_contiguous or not view.nbytes:
         return bytes(view), view.nbytes

@@ -9,7 +9,6 @@ from ._faults import Fault, FaultKind
 from ._handle import BESIDE, CLOSED, MOST_GIVEN, kept_here, taken
 from ._limits import OPTIONS, Limits
 from ._output import Position
-from ._parts import Copied
 from ._request import Request
 from ._written import Kept, Written
 
@@ -25,7 +24,16 @@ class Reading:
         fault: the fault that ended it, once it was read up to there.
         text_bytes: how many bytes the texts have that were given or lent.
         runs: the lines of the line map for what `read_mapped` wrote.
+        most: how many bytes the part of an included text has at most that is given while it is read: it stays in the processor's
+            cache until the library has copied it.
     """
+
+    most = 262_144
+    # where a part is read to, and the room that it is part of
+    _part = 0
+    _written: Optional[Written] = None
+    # the texts that are lent to the handle, and stand until it is closed
+    _lent: Tuple[object, ...] = ()
 
     def __init__(self, request: Request, *, pieces: bool = False):
         self._home = kept_here()
@@ -37,8 +45,6 @@ class Reading:
         # the sources that were opened: by each file the path by which it was opened first, by each other path itself
         self._sources: Dict[Union[FileId, bytes], bytes] = {}
         self.text_bytes = 0
-        # the texts that are lent to the handle, and stand until it is closed
-        self._lent: List[object] = []
         # how many bytes the handle was given beside them
         self._given = len(request.path) + BESIDE
         self.runs: List[bytes] = []
@@ -53,16 +59,17 @@ class Reading:
         for folder in request.folders:
             self._given += len(folder) + BESIDE
         main = request.main
-        lends = main is not None and len(main) > MOST_GIVEN
-        outcome = self._handle.open(request._replace(main=None) if lends else request, pieces)
+        if main is not None:
+            self.text_bytes = len(main)
+            if self.text_bytes > MOST_GIVEN:
+                request = request._replace(main=None)
+        outcome = self._handle.open(request, pieces)
         if outcome.status == library.STOPPED:
             raise self._fault(outcome)
         if outcome.status != library.WHOLE:
             _raise_refusal(outcome.status)
-        if main is not None:
-            self.text_bytes = len(main)
-            if lends:
-                self._lend(request.path, main, main, len(main))
+        if main is not request.main:
+            self._lend(request.path, main, main, self.text_bytes)
 
     def read(self, written: Written, most: int) -> None:
         """Reads once, at most so many bytes, and no more than there is room for.
@@ -109,7 +116,7 @@ class Reading:
             self._home[:] = [handle]
         else:
             handle.close()
-        self._lent.clear()
+        self._lent = ()
 
     def __enter__(self) -> "Reading":
         return self
@@ -130,8 +137,9 @@ class Reading:
             return
         path, asked = self._handle.buffers[: outcome.name_length], self._asked
         self._given += len(path) + BESIDE
+        self._written = written
         is_main = path == self._main
-        parts: Union[Kept, Copied] = Kept() if is_main else Copied(written, self._give_part)
+        parts: Union[Kept, Reading] = Kept() if is_main else self
         try:
             text = asked.text_at(path, parts)
         except Unreadable as unreadable:
@@ -140,21 +148,17 @@ class Reading:
                 self._sources.setdefault(asked.file or path, path)
             _raise_refusal(library.give_failed(self._handle.at, path, len(path)))
             return
+        finally:
+            self._written = None
         if text is None:
             _raise_refusal(library.give_absent(self._handle.at, path, len(path)))
             return
         self._sources.setdefault(asked.file or path, path)
-        if isinstance(parts, Kept) and parts.filled:
-            self._tell(path, parts, ctypes.c_void_p(parts.place), parts.filled, True)
-            return
         place, length = (text, len(text)) if isinstance(text, bytes) else library.lent(text)
-        # the main text is open up to the end
-        self._tell(path, text, place, length, asked.stays or is_main)
-
-    def _tell(self, path: bytes, text: object, place: Any, length: int, stays: bool) -> None:
-        """Tells the library a text, which is copied; but one that stays to the end, and is long and never changes, is lent."""
         self.text_bytes += length
-        if stays and length > MOST_GIVEN and isinstance(text, (bytes, Kept)):
+        # the main text is open up to the end
+        stays = asked.stays or is_main
+        if length > MOST_GIVEN and stays and isinstance(text, (bytes, Kept)):
             self._lend(path, text, place, length)
             return
         handle = self._handle
@@ -165,14 +169,24 @@ class Reading:
             _raise_refusal(status)
 
     def _lend(self, path: bytes, text: object, place: Any, length: int) -> None:
-        """Lends the library a text, which isn't copied. A handle that has one is closed when this is."""
-        self._lent.append(text)
+        """Lends the library a text that stays and never changes, which isn't copied. A handle that has one is closed when this is."""
+        self._lent += (text,)
         _raise_refusal(library.lend(self._handle.at, path, len(path), place, length))
 
-    def _give_part(self, place: int, length: int, more: int) -> None:
-        """Gives the library a part of a text, which is copied."""
-        _raise_refusal(library.give_part(self._handle.at, place, length, more))
+    def room(self, least: int, more: int) -> int:
+        """Room for a part of an included text: behind what was written so far, where nothing stands yet."""
+        assert self._written is not None
+        self._part = self._written.end(least)
+        return self._part
+
+    def take(self, length: int, more: int) -> None:
+        """Gives the library the part that was read there, which is copied."""
+        _raise_refusal(library.give_part(self._handle.at, self._part, length, more))
         self.text_bytes += length
+
+    def rest(self) -> bytes:
+        """What follows behind the parts: nothing."""
+        return b""
 
     def _end(self, outcome: library.Outcome) -> None:
         """Takes the outcome that ends an output."""

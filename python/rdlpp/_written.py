@@ -110,11 +110,9 @@ class Kept:
     """
 
     most = 4_194_304
+    place: Optional[int] = None
+    filled = 0
     _room = 0
-
-    def __init__(self) -> None:
-        self.place: Optional[int] = None
-        self.filled = 0
 
     def room(self, least: int, more: int) -> int:
         if self._room - self.filled < least:
@@ -129,8 +127,13 @@ class Kept:
     def take(self, length: int, more: int) -> None:
         self.filled += length
 
+    def rest(self) -> "Kept":
+        """The text itself, since no part of it was given."""
+        return self
+
     def __del__(self) -> None:
-        _free(self.place)
+        if self.place is not None:
+            _free(self.place)
 
 
 def _whole_pages(room: int, page: int) -> int:
