@@ -1,48 +1,11 @@
 /* Refuses each allocation of a call in turn: the answer is RDLPP_NO_MEMORY, nothing is written, and
    nothing is kept. */
+#include "allocations.h"
 #include "rdlpp.h"
 
 #include <stdio.h>
 #include <stdlib.h>
 #include <string.h>
-
-/* How many more allocations are granted, and how many blocks are out. */
-static long granted = -1;
-static long blocks = 0;
-
-static int is_refused(void)
-{
-    if (granted == 0) {
-        return 1;
-    }
-    granted -= granted > 0;
-    return 0;
-}
-
-void *__real_malloc(size_t size);
-void *__real_realloc(void *block, size_t size);
-void __real_free(void *block);
-void *__wrap_malloc(size_t size);
-void *__wrap_realloc(void *block, size_t size);
-void __wrap_free(void *block);
-
-void *__wrap_malloc(size_t size)
-{
-    void *block = is_refused() ? NULL : __real_malloc(size);
-    blocks += block != NULL;
-    return block;
-}
-
-void *__wrap_realloc(void *block, size_t size)
-{
-    return is_refused() ? NULL : __real_realloc(block, size);
-}
-
-void __wrap_free(void *block)
-{
-    blocks -= block != NULL;
-    __real_free(block);
-}
 
 static const rdlpp_text texts[] = {{"m", 1, "reg[`W];\n", 9}, {"i", 1, "q", 1}};
 static const rdlpp_folder folders[] = {{"inc", 3}, {"more", 4}};

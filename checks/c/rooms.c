@@ -1,6 +1,7 @@
 /* Counts the memory that an opening asks for: beside what is copied of the request, and the block of the handle, it has the
    bytes that the limits come to, in at most `includes + 9` blocks; reads ask for none. And that which a text asks for: a lent
    one for its path alone. */
+#include "allocations.h"
 #include "rdlpp.h"
 
 #include <stdbool.h>
@@ -8,41 +9,11 @@
 #include <stdlib.h>
 #include <string.h>
 
-/* How many blocks were asked for and how many bytes, and whether more are refused. */
-static struct asked {
+/* What was asked for: blocks, and bytes. */
+struct asked {
     size_t blocks;
     size_t bytes;
-} asked;
-static bool is_refusing = false;
-
-static bool is_refused(size_t size)
-{
-    asked.blocks += 1;
-    asked.bytes += size;
-    return is_refusing;
-}
-
-void *__real_malloc(size_t size);
-void *__real_realloc(void *block, size_t size);
-void __real_free(void *block);
-void *__wrap_malloc(size_t size);
-void *__wrap_realloc(void *block, size_t size);
-void __wrap_free(void *block);
-
-void *__wrap_malloc(size_t size)
-{
-    return is_refused(size) ? NULL : __real_malloc(size);
-}
-
-void *__wrap_realloc(void *block, size_t size)
-{
-    return is_refused(size) ? NULL : __real_realloc(block, size);
-}
-
-void __wrap_free(void *block)
-{
-    __real_free(block);
-}
+};
 
 /* Definitions with lists, defaults and comments, usages, calls over lines, conditionals, skipped text, a `line`, and an
    include of a text that includes itself until none more may be open. */
@@ -103,14 +74,14 @@ static rdlpp_limits limits_of(const size_t limits[LIMITS])
 static bool reads_without(rdlpp_handle *handle)
 {
     char out[256], none[1];
-    const size_t before = asked.blocks;
+    const size_t before = asked_blocks;
     rdlpp_outcome outcome;
-    is_refusing = true;
+    granted = 0;
     do {
         outcome = rdlpp_read(handle, out, sizeof out, none, 0, none, 0);
     } while (outcome.status == RDLPP_MORE);
-    is_refusing = false;
-    return asked.blocks == before && outcome.status == RDLPP_STOPPED && outcome.number != RDLPP_FAULT_NO_MEMORY_FOR_A_SOURCE;
+    granted = -1;
+    return asked_blocks == before && outcome.status == RDLPP_STOPPED && outcome.number != RDLPP_FAULT_NO_MEMORY_FOR_A_SOURCE;
 }
 
 /* What an opening by these limits asks for beside what a second one does, which copies the request alone; no blocks where
@@ -119,7 +90,8 @@ static struct asked asked_by(const size_t limits[LIMITS])
 {
     static const rdlpp_text texts[] = {{"m", 1, text, sizeof text - 1}};
     static const rdlpp_folder folders[] = {{"inc", 3}};
-    struct asked first, none = {0, 0};
+    const struct asked none = {0, 0};
+    struct asked first;
     rdlpp_request request = rdlpp_standard_request();
     rdlpp_handle handle = RDLPP_CLOSED_HANDLE;
     char word[1];
@@ -132,14 +104,15 @@ static struct asked asked_by(const size_t limits[LIMITS])
     request.folders_length = 1;
     request.path = "m";
     request.path_length = 1;
-    asked = none;
+    asked_blocks = asked_bytes = 0;
     is_right = rdlpp_open(&request, word, 0, word, 0, &handle).status == RDLPP_WHOLE;
-    first = asked;
+    first.blocks = asked_blocks;
+    first.bytes = asked_bytes;
     is_right = is_right && reads_without(&handle);
-    asked = none;
+    asked_blocks = asked_bytes = 0;
     is_right = is_right && rdlpp_reopen(&request, word, 0, word, 0, &handle).status == RDLPP_WHOLE;
-    first.blocks -= asked.blocks;
-    first.bytes -= asked.bytes;
+    first.blocks -= asked_blocks;
+    first.bytes -= asked_bytes;
     is_right = is_right && reads_without(&handle);
     rdlpp_close(&handle);
     return is_right ? first : none;
@@ -174,7 +147,7 @@ static size_t bytes_of(uint32_t (*tells)(rdlpp_handle *, const char *, size_t, c
     rdlpp_request request = rdlpp_standard_request();
     rdlpp_handle handle = RDLPP_CLOSED_HANDLE;
     char out[256], word[1];
-    size_t before, bytes = 0;
+    size_t before, read = 0, bytes = 0;
     rdlpp_outcome outcome;
     memset(lines, '\n', sizeof lines);
     request.asks = true;
@@ -183,19 +156,18 @@ static size_t bytes_of(uint32_t (*tells)(rdlpp_handle *, const char *, size_t, c
     if (rdlpp_open(&request, word, 0, word, 0, &handle).status != RDLPP_WHOLE) {
         return 0;
     }
-    before = asked.bytes;
+    before = asked_bytes;
     if (tells(&handle, "m", 1, lines, sizeof lines) == RDLPP_WHOLE) {
-        bytes = asked.bytes - before;
+        bytes = asked_bytes - before;
     }
-    before = 0;
-    is_refusing = true;
+    granted = 0;
     do {
         outcome = rdlpp_read(&handle, out, sizeof out, word, 0, word, 0);
-        before += outcome.length;
+        read += outcome.length;
     } while (outcome.status == RDLPP_MORE);
-    is_refusing = false;
+    granted = -1;
     rdlpp_close(&handle);
-    return outcome.status == RDLPP_WHOLE && before == sizeof lines ? bytes : 0;
+    return outcome.status == RDLPP_WHOLE && read == sizeof lines ? bytes : 0;
 }
 
 /* The standard limits, each limit alone at its least, doubled and at its greatest, and all of them at once. */

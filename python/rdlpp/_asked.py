@@ -12,7 +12,7 @@ import os
 import stat
 from typing import Any, Callable, Mapping, Optional, Protocol, Tuple, Union
 
-from ._written import Kept
+from ._standing_text import StandingText
 
 # What a mapping and a callable may give as a text.
 Bytes = Union[bytes, bytearray, memoryview]
@@ -31,8 +31,8 @@ SMALL = 32_768
 # How a file is opened.
 HOW = os.O_RDONLY | os.O_CLOEXEC
 
-# room from some address on, of which no more is used than a part has
-_room = ctypes.c_char * 4_194_304
+# Room from some address on, of which no more is used than a part has.
+_room = ctypes.c_char * StandingText.most
 _last = ctypes.CDLL(None).memrchr
 _last.restype = ctypes.c_void_p
 _last.argtypes = [ctypes.c_void_p, ctypes.c_int, ctypes.c_size_t]
@@ -53,7 +53,7 @@ class Parts(Protocol):
     def take(self, length: int, more: int) -> None:
         """Takes so many bytes that stand there; about so many more follow."""
 
-    def rest(self) -> Union[bytes, Kept]:
+    def rest(self) -> Union[bytes, StandingText]:
         """What is to be told of the text when its last part was taken."""
 
 
@@ -68,7 +68,7 @@ class Asked(Protocol):
     stays: bool
     file: Optional[FileId]
 
-    def text_at(self, path: bytes, parts: Parts) -> Union[Bytes, Kept, None]:
+    def text_at(self, path: bytes, parts: Parts) -> Union[Bytes, StandingText, None]:
         """The text at a path in UTF-8, or what is to be told of it when its parts were taken."""
 
 
@@ -113,7 +113,7 @@ class Disk:
         self._line = line_bytes
         self._tells_files = tells_files
 
-    def text_at(self, path: bytes, parts: Parts) -> Union[bytes, Kept, None]:
+    def text_at(self, path: bytes, parts: Parts) -> Union[bytes, StandingText, None]:
         if LF in path:
             return None
         if NUL in path:
@@ -135,7 +135,7 @@ class Disk:
         finally:
             os.close(file)
 
-    def _text(self, file: int, parts: Parts) -> Union[bytes, Kept]:
+    def _text(self, file: int, parts: Parts) -> Union[bytes, StandingText]:
         """What a run can use of an open file, which may grow meanwhile."""
         self.file = None
         if not self._tells_files:

@@ -6,7 +6,8 @@ from typing import Any, Callable, Sequence, Tuple, Union
 
 from ._asked import Bytes
 from ._limits import Limits
-from ._written import Kept, Written
+from ._standing_text import StandingText
+from ._written import Written
 
 WHOLE, STOPPED, BAD_LIMIT, BAD_TEXT, NO_MEMORY, MORE, CLOSED, WANTED, SHORT_MAP, CHANGED = range(10)
 NAME_ROOM = 1024
@@ -127,9 +128,9 @@ _fault_text = _declared("rdlpp_fault_text", ctypes.c_size_t, ctypes.c_uint32, *_
 _version = _declared("rdlpp_version", ctypes.c_size_t, *_buffer)
 
 
-def lent(text: Union[bytearray, memoryview, Kept]) -> Tuple[Any, int]:
-    """A text as the pointer and the length that a call takes; it is copied only where its memory can't be lent."""
-    if isinstance(text, Kept):
+def pointer_and_length(text: Union[bytearray, memoryview, StandingText]) -> Tuple[Any, int]:
+    """A text as a call takes it. It is copied only where its memory can't be passed on."""
+    if isinstance(text, StandingText):
         return (ctypes.c_void_p(text.place) if text.filled else b""), text.filled
     view = memoryview(text)
     if view.readonly or not view.c_contiguous or not view.nbytes:

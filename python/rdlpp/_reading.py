@@ -10,14 +10,15 @@ from ._handle import BESIDE, CLOSED, MOST_GIVEN, kept_here, taken
 from ._limits import OPTIONS, Limits
 from ._output import Position
 from ._request import Request
-from ._written import Kept, Written
+from ._standing_text import StandingText
+from ._written import Written
 
 # What a note begins with where it is written.
 NOTE = "rdlpp: note: "
 
 
 class Reading:
-    """An output that is open. It is used by one call at a time.
+    """An output that is open. It is used by one call at a time. It takes the parts of an included text, as `Parts` of `_asked` says.
 
     Attributes:
         is_over: whether nothing is left to read.
@@ -112,7 +113,8 @@ class Reading:
         except IndexError:
             return
         self._handle = CLOSED
-        if handle.is_small and self.text_bytes + self._given <= MOST_GIVEN and self._home is kept_here():
+        is_small = handle.is_small and self.text_bytes + self._given <= MOST_GIVEN
+        if is_small and not self._lent and self._home is kept_here():
             self._home[:] = [handle]
         else:
             handle.close()
@@ -139,7 +141,7 @@ class Reading:
         self._given += len(path) + BESIDE
         self._written = written
         is_main = path == self._main
-        parts: Union[Kept, Reading] = Kept() if is_main else self
+        parts: Union[StandingText, Reading] = StandingText() if is_main else self
         try:
             text = asked.text_at(path, parts)
         except Unreadable as unreadable:
@@ -154,11 +156,11 @@ class Reading:
             _raise_refusal(library.give_absent(self._handle.at, path, len(path)))
             return
         self._sources.setdefault(asked.file or path, path)
-        place, length = (text, len(text)) if isinstance(text, bytes) else library.lent(text)
+        place, length = (text, len(text)) if isinstance(text, bytes) else library.pointer_and_length(text)
         self.text_bytes += length
         # the main text is open up to the end
         stays = asked.stays or is_main
-        if length > MOST_GIVEN and stays and isinstance(text, (bytes, Kept)):
+        if length > MOST_GIVEN and stays and isinstance(text, (bytes, StandingText)):
             self._lend(path, text, place, length)
             return
         handle = self._handle

@@ -6,7 +6,7 @@ else has it, and gives it another length by `_PyBytes_Resize`; so it is here, by
 
 import ctypes
 import sys
-from typing import Optional, cast
+from typing import cast
 
 if sys.implementation.name != "cpython":
     raise ImportError(f"rdlpp needs CPython, whose bytes objects it writes to, and this is {sys.implementation.name}")
@@ -20,11 +20,9 @@ _resize.argtypes = [ctypes.POINTER(ctypes.c_void_p), ctypes.c_ssize_t]
 _forget = ctypes.pythonapi.Py_DecRef
 _forget.restype = None
 _forget.argtypes = [ctypes.c_void_p]
-_c = ctypes.CDLL(None)
-_advise, _reallocate, _free = _c.madvise, _c.realloc, _c.free
-_advise.restype, _advise.argtypes = ctypes.c_int, [ctypes.c_void_p, ctypes.c_size_t, ctypes.c_int]
-_reallocate.restype, _reallocate.argtypes = ctypes.c_void_p, [ctypes.c_void_p, ctypes.c_size_t]
-_free.restype, _free.argtypes = None, [ctypes.c_void_p]
+_advise = ctypes.CDLL(None).madvise
+_advise.restype = ctypes.c_int
+_advise.argtypes = [ctypes.c_void_p, ctypes.c_size_t, ctypes.c_int]
 
 MARGIN = 65_536
 FEW = 1_024
@@ -37,8 +35,6 @@ LARGE = 4_194_304
 HUGE_PAGE = 2_097_152
 # At least what the memory of a large room has beside it: the head of a bytes object and that of a block of malloc.
 BESIDE = 128
-# More than what else a call holds by the standard limits, and gives back.
-SPARE = 6_291_456
 
 
 def roomy(length: int) -> int:
@@ -69,7 +65,7 @@ class Written:
         held = _new(None, room + 1)
         self._held = ctypes.c_void_p(held)
         self.place: int = held + HEAD
-        _prefer(HUGE_PAGES, self.place, room)
+        prefer(HUGE_PAGES, self.place, room)
 
     def end(self, least: int) -> int:
         """The address behind the bytes that were written, with room for so many more at least. What stands there stays
@@ -88,52 +84,13 @@ class Written:
 
     def _grow(self, room: int) -> None:
         # A zero byte is written behind the room, for which no huge page should be made.
-        _prefer(SMALL_PAGES, self.place, self.room)
+        prefer(SMALL_PAGES, self.place, self.room)
         _resize(ctypes.byref(self._held), room + 1)
         self.place, self.room = cast(int, self._held.value) + HEAD, room
-        _prefer(HUGE_PAGES, self.place, room)
+        prefer(HUGE_PAGES, self.place, room)
 
     def __del__(self) -> None:
         _forget(self._held)
-
-
-class Kept:
-    """A text that is read part by part, and stays where it was read to.
-
-    Its room is as much larger as serves malloc to keep its memory, and that of the output, for the next call, though the system
-    gives no pages for what isn't written: the memory that is free in the end is less than twice the largest block.
-
-    Attributes:
-        place: where it stands.
-        filled: how many bytes were read.
-        most: how many bytes a part has at most.
-    """
-
-    most = 4_194_304
-    place: Optional[int] = None
-    filled = 0
-    _room = 0
-
-    def room(self, least: int, more: int) -> int:
-        if self._room - self.filled < least:
-            room = max(self.filled + least + more + SPARE, self._room + self._room // 2)
-            place = _reallocate(self.place, room)
-            if place is None:
-                raise MemoryError("memory was refused")
-            self.place, self._room = place, room
-            _prefer(HUGE_PAGES, place, room)
-        return cast(int, self.place) + self.filled
-
-    def take(self, length: int, more: int) -> None:
-        self.filled += length
-
-    def rest(self) -> "Kept":
-        """The text itself, since no part of it was given."""
-        return self
-
-    def __del__(self) -> None:
-        if self.place is not None:
-            _free(self.place)
 
 
 def _whole_pages(room: int, page: int) -> int:
@@ -145,7 +102,7 @@ def _whole_pages(room: int, page: int) -> int:
     return room if room < LARGE else (room + BESIDE + page - 1) // page * page - BESIDE
 
 
-def _prefer(pages: int, place: int, room: int) -> None:
+def prefer(pages: int, place: int, room: int) -> None:
     """Lets the system make huge pages for a large room from now on, if it wants to, or small ones; nothing else changes.
 
     It is asked for all of the room's memory: where it is asked for a part, the memory is two parts from then on, which
