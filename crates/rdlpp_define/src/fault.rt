@@ -41,14 +41,16 @@ pub struct DefineFault {
     pub word: ArrayString<128>,
 }
 
-/// A refusal without a word.
-pub fn refusal(kind: DefineKind) -> DefineFault
-    ensures kind { result.kind ≡ kind }
-    ensures word { result.word.bytes ≡ [] }
-{
-    DefineFault {
-        kind,
-        word: ArrayString::new(),
+impl DefineFault {
+    /// The reason alone, without a word.
+    pub fn without_word(kind: DefineKind) -> DefineFault
+        ensures kind { result.kind ≡ kind }
+        ensures word { result.word.bytes ≡ [] }
+    {
+        DefineFault {
+            kind,
+            word: ArrayString::new(),
+        }
     }
 }
 

@@ -11,7 +11,7 @@ mod new_macro;
 mod options;
 mod reading;
 
-pub use fault::{DefineFault, DefineKind, refusal};
+pub use fault::{DefineFault, DefineKind};
 pub use limits::{LimitFault, Limits, limit_name};
 pub use name::word_of;
 pub use new_macro::NewMacro;

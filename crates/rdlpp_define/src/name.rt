@@ -3,7 +3,7 @@ ghost use Rattle.std.specs.Prelude.{length, MatchResult, None, OnOk, Some, take,
 ghost use Rattle.rdlpp_scan.specs.Names.{IsWordBytes};
 ghost use Rattle.rdlpp_define.specs.Define.{name_fault, refused_word};
 
-use crate::fault::{DefineFault, DefineKind, refusal};
+use crate::fault::{DefineFault, DefineKind};
 use arrayvec::ArrayString;
 use rdlpp_scan::reserved;
 
@@ -28,7 +28,7 @@ pub(crate) fn check_name(name: &[u8]) -> Result<(), DefineFault>
     ensures short { OnOk result (length name.now ≤ 128) }
 {
     if name.is_empty() {
-        return Err(refusal(DefineKind::NameExpected));
+        return Err(DefineFault::without_word(DefineKind::NameExpected));
     }
     if reserved(name).is_some() {
         return Err(DefineFault {
@@ -37,7 +37,7 @@ pub(crate) fn check_name(name: &[u8]) -> Result<(), DefineFault>
         });
     }
     if name.len() > MOST_NAME_BYTES {
-        return Err(refusal(DefineKind::NameTooLong));
+        return Err(DefineFault::without_word(DefineKind::NameTooLong));
     }
     Ok(())
 }

@@ -7,7 +7,7 @@ ghost use Rattle.rdlpp_define.specs.Macros.{formal_bytes, formals_of, list_size,
 ghost use Rattle.rdlpp_define.specs.NewMacro.{list_formals, IsList};
 ghost use Rattle.rdlpp_define.specs.Plain.{is_plain_macro};
 
-use crate::fault::{DefineFault, lexical, refusal};
+use crate::fault::{DefineFault, lexical};
 use crate::formals::append_list;
 use rdlpp_scan::{append_trimmed, trimmed_len};
 use std::marker::Model;
@@ -17,7 +17,7 @@ use std::marker::Model;
 pub struct NewMacro<'a> {
     name: &'a [u8],
     arity: Option<usize>,
-    // The text of the formal list behind its `(`, where it has formals, and how many bytes they are.
+    // The text of the formal list after its `(`, where it has formals, and how many bytes they are.
     list: &'a [u8],
     list_len: usize,
     // The text that the body is read from: of a logical line, or as it stands.
@@ -115,6 +115,6 @@ pub(crate) fn with_body<'a>(
             text,
             body_len: body.len,
         }),
-        Err(fault) => Err(refusal(lexical(fault))),
+        Err(fault) => Err(DefineFault::without_word(lexical(fault))),
     }
 }

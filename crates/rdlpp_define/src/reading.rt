@@ -4,7 +4,7 @@ ghost use Rattle.rdlpp_scan.specs.Continuations.{as_read};
 ghost use Rattle.rdlpp_scan.specs.SourceTokens.{logical_len};
 ghost use Rattle.rdlpp_define.specs.Define.{drafted, macro_of, macro_set, name_fault, with_list};
 
-use crate::fault::{DefineFault, DefineKind, refusal};
+use crate::fault::{DefineFault, DefineKind};
 use crate::formals::read_list;
 use crate::header::{after_space, leading_name, list_after, unended};
 use crate::name::check_name;
@@ -44,7 +44,7 @@ pub fn read_named<'a>(name: &'a [u8], text: &'a [u8]) -> Result<NewMacro<'a>, De
     ensures { drafted result ≡ macro_set name.now text.now }
 {
     if !is_name(name) {
-        return Err(refusal(DefineKind::NameExpected));
+        return Err(DefineFault::without_word(DefineKind::NameExpected));
     }
     match check_name(name) {
         Ok(()) => with_body(name, None, &[], 0, false, text),
@@ -52,7 +52,7 @@ pub fn read_named<'a>(name: &'a [u8], text: &'a [u8]) -> Result<NewMacro<'a>, De
     }
 }
 
-// The macro of a name with what stands behind the name in a logical line.
+// The macro of a name with what stands after the name in a logical line.
 fn read_after<'a>(name: &'a [u8], after: &'a [u8]) -> Result<NewMacro<'a>, DefineFault>
     requires named { name_fault name.now ≡ None }
     ensures { drafted result ≡ with_list name.now (as_read true after.now) }
@@ -69,6 +69,6 @@ fn read_after<'a>(name: &'a [u8], after: &'a [u8]) -> Result<NewMacro<'a>, Defin
             true,
             read.following,
         ),
-        Err(kind) => Err(refusal(kind)),
+        Err(kind) => Err(DefineFault::without_word(kind)),
     }
 }

@@ -20,7 +20,7 @@ use crate::point::{ExpansionPoint, next_expansion_point};
 use crate::point_cache::cached_point;
 use crate::removal::remove_named;
 use crate::storing::{replace, usage_without};
-use rdlpp_define::{DefineFault, DefineKind, Limits, NewMacro, read_define, read_named, refusal};
+use rdlpp_define::{DefineFault, DefineKind, Limits, NewMacro, read_define, read_named};
 use std::alloc::{AllocError, Global};
 use std::marker::Model;
 
@@ -221,10 +221,10 @@ impl Table {
     /// of the body.
     ///
     /// Reads at most two bytes of the body. The first ten expansion points tell it where `from` is the front of the body or the end
-    /// of the expansion point before it, or stands behind a blank or a byte that is a token by itself, at most 255 bytes further
+    /// of the expansion point before it, or stands after a blank or a byte that is a token by itself, at most 255 bytes further
     /// on, none of which is `"`, `/` or `<`; and `to` is the end of the body, or at most so many such bytes lie before the
     /// expansion point, which ends at `to` or before it, or before `to`, where no word goes on and which the expansion point is
-    /// behind.
+    /// after.
     pub fn kept_point(&self, id: MacroId, from: usize, to: usize) -> Option<ExpansionPoint>
         requires id { id < length self.now.macros }
         requires order { from ≤ to }
@@ -340,7 +340,7 @@ impl Table {
     /// its `//` comments, and then the blanks at both ends.
     ///
     /// # Errors
-    /// Those of `rdlpp_define::read_define`, and behind them `DefinitionBytes` or `TooManyDefinitions` where the table
+    /// Those of `rdlpp_define::read_define`, and after them `DefinitionBytes` or `TooManyDefinitions` where the table
     /// hasn't room for it without the old macro of that name. The table is unchanged then.
     #[inline(never)]
     pub fn read_define(&mut self, rest: &[u8]) -> Result<(), DefineFault>
@@ -359,7 +359,7 @@ impl Table {
     /// its `//` comments and the blanks at both ends go.
     ///
     /// # Errors
-    /// Those of `rdlpp_define::read_named`, and behind them `DefinitionBytes` or `TooManyDefinitions` where the table
+    /// Those of `rdlpp_define::read_named`, and after them `DefinitionBytes` or `TooManyDefinitions` where the table
     /// hasn't room for it without the old macro of that name. The table is unchanged then.
     #[inline(never)]
     pub fn set(&mut self, name: &[u8], text: &[u8]) -> Result<(), DefineFault>
@@ -373,7 +373,7 @@ impl Table {
         }
     }
 
-    // Stores a macro behind the others, in the place of one of its name.
+    // Stores a macro after the others, in the place of one of its name.
     fn store(&mut self, new: &NewMacro<'_>) -> Result<(), DefineFault>
         ensures outcome { observed result self.new.macros ≡ stored self.old.most_bytes self.old.most_macros self.old.macros new.now }
         ensures refused { OnErr result (self.new ≡ self.old) }
@@ -394,10 +394,10 @@ impl Table {
             .saturating_add(new.formals_len())
             .saturating_add(new.body_len());
         if self.most_bytes - rest.size < size {
-            return Err(refusal(DefineKind::DefinitionBytes));
+            return Err(DefineFault::without_word(DefineKind::DefinitionBytes));
         }
         if self.most_macros <= rest.count {
-            return Err(refusal(DefineKind::TooManyDefinitions));
+            return Err(DefineFault::without_word(DefineKind::TooManyDefinitions));
         }
         replace(
             &mut self.bytes,

@@ -8,7 +8,7 @@ word_of-requires c = reserved_word c.args.name.now (sym c.reserved.ensures.reser
 
 pub returns-then-is_empty-clause-value : goal.returns-then-is_empty-clause-value
 returns-then-is_empty-clause-value c =
-    let r = empty_name c.args.name.now _ _ (sym c.is_empty.ensures ∙ c.if-is_empty.true) c.refusal.ensures.kind c.refusal.ensures.word in (r.why, r.word_is)
+    let r = empty_name c.args.name.now _ _ (sym c.is_empty.ensures ∙ c.if-is_empty.true) c.without_word.ensures.kind c.without_word.ensures.word in (r.why, r.word_is)
 
 pub returns-then-is_some-clause-value : goal.returns-then-is_some-clause-value
 returns-then-is_some-clause-value c =
@@ -18,7 +18,7 @@ returns-then-is_some-clause-value c =
 pub returns-then-name-gt-MOST_NAME_BYTES-clause-value : goal.returns-then-name-gt-MOST_NAME_BYTES-clause-value
 returns-then-name-gt-MOST_NAME_BYTES-clause-value c =
     let free = sym c.reserved.ensures.reserved ∙ (sym c.is_some.ensures ∙ c.if-is_some.false) in
-    let r = long_name c.args.name.now _ _ (sym c.is_empty.ensures ∙ c.if-is_empty.false) free c.if-name-gt-MOST_NAME_BYTES.true c.refusal-then-name-gt-MOST_NAME_BYTES.ensures.kind c.refusal-then-name-gt-MOST_NAME_BYTES.ensures.word in (r.why, r.word_is)
+    let r = long_name c.args.name.now _ _ (sym c.is_empty.ensures ∙ c.if-is_empty.false) free c.if-name-gt-MOST_NAME_BYTES.true c.without_word-then-name-gt-MOST_NAME_BYTES.ensures.kind c.without_word-then-name-gt-MOST_NAME_BYTES.ensures.word in (r.why, r.word_is)
 
 pub returns-clause-value : goal.returns-clause-value
 returns-clause-value c =

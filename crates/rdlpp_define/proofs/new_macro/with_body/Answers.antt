@@ -19,4 +19,4 @@ returns-in-Ok c = body_reads c.args.name.now (list_formals c.args.arity c.args.l
 
 pub returns-in-Err : goal.returns-in-Err
 unfolding start_level
-returns-in-Err c = body_refuses _ _ _ _ _ (sym c.in-Err.ensures.len) (c.refusal.ensures.kind ∙ c.lexical.ensures) c.refusal.ensures.word
+returns-in-Err c = body_refuses _ _ _ _ _ (sym c.in-Err.ensures.len) (c.without_word.ensures.kind ∙ c.lexical.ensures) c.without_word.ensures.word

@@ -27,4 +27,4 @@ returns-in-Ok c =
     ∙ list_reads _ _ _ _ (c.in-Some.ensures ∙ (list_is _ _ _ _ c.in-Ok.ensures.read).1)
 
 pub returns-in-Err : goal.returns-in-Err
-returns-in-Err c = list_refuses _ _ _ _ (c.in-Some.ensures ∙ c.in-Err.ensures.read) c.refusal.ensures.kind c.refusal.ensures.word
+returns-in-Err c = list_refuses _ _ _ _ (c.in-Some.ensures ∙ c.in-Err.ensures.read) c.without_word.ensures.kind c.without_word.ensures.word

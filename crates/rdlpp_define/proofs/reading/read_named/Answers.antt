@@ -4,7 +4,7 @@ use Rattle.rdlpp_define.proofs.Drafts.{no_list_is, no_name, name_refused, named_
 use Rattle.rdlpp_define.proofs.reading.read_named.Goals as goal
 
 pub returns-then-not-is_name : goal.returns-then-not-is_name
-returns-then-not-is_name c = no_name _ _ _ (sym c.is_name.ensures ∙ c.if-not-is_name.true) c.refusal.ensures.kind c.refusal.ensures.word
+returns-then-not-is_name c = no_name _ _ _ (sym c.is_name.ensures ∙ c.if-not-is_name.true) c.without_word.ensures.kind c.without_word.ensures.word
 
 pub with_body-requires : goal.with_body-requires
 unfolding list_formals
