@@ -1,4 +1,4 @@
-// The limits of a run, their standard values and their ranges.
+// The limits of a run: their standard values, their ranges and their names.
 ghost use Rattle.std.specs.Prelude.{◌≡◌, IsOk, OnOk, MatchResult, Some, None};
 ghost use Rattle.rdlpp_define.specs.Limits.{is_within, limit_fault, limit_name, AreInRange};
 

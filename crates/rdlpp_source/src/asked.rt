@@ -33,8 +33,8 @@ pub enum Standing {
 /// `folders`, and a reader gives the very text that stands there. Where `asks`, a candidate of which
 /// nothing is known ends a search: `Device` is answered, and `wanted` has the candidate's path until
 /// the next search; after `tell` of it the search may be made again. Else nothing stands at such a
-/// path, and no search answers `Device`. A text that has `usize::MAX` readers has room for no further
-/// one, which is told as `NoMemory`.
+/// path, and no search answers `Device`. An owned text that has `usize::MAX` readers has room for no
+/// further one, which is told as `NoMemory`.
 #[derive(Drop)]
 pub struct AskedTexts {
     /// What is known of each path. One that has more than 1,024 bytes or an LF byte is never found.

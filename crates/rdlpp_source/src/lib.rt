@@ -1,5 +1,5 @@
 //! Where a preprocessor's texts come from and where its text goes: the traits `Sources` and `Sink`,
-//! sources in memory, lent or owned, sources over files, and sinks over any writer.
+//! sources in memory, sources over files, and sinks over any writer.
 #![tactic(auto)]
 
 mod asked;
