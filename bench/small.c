@@ -41,7 +41,7 @@ static char *source_of(size_t bytes)
     return source;
 }
 
-/* Reads the output of a request, by a handle that is closed behind it or that stays. */
+/* Reads the output of a request, by a handle that is closed after it or that stays. */
 static void call(const rdlpp_request *request, rdlpp_handle *handle, bool stays)
 {
     rdlpp_outcome outcome = (stays ? rdlpp_reopen : rdlpp_open)(request, name, sizeof name, word, sizeof word, handle);

@@ -105,7 +105,7 @@ class Table:
         self.put(name, Macro(None, body_of(text)))
 
     def read_define(self, line):
-        """Defines the macro of a logical line, from behind the word `define`; its LF, if one ends it, is there."""
+        """Defines the macro of a logical line, from after the word `define`; its LF, if one ends it, is there."""
         is_ended = re.search(rb"(?<!\\)(?<!\\\r)\n\Z", line)
         text = re.sub(rb"\\\r?\n", b"\n", line)
         text = text[:-1] if is_ended else text
@@ -136,7 +136,7 @@ def body_of(text):
 
 
 def read_formals(text, at):
-    """The formals of a list, from behind its `(`, and where its `)` ends."""
+    """The formals of a list, from after its `(`, and where its `)` ends."""
     formals = []
     at = WHITE_SPACE.match(text, at).end()
     if text[at : at + 1] == b")":
@@ -169,21 +169,21 @@ def read_formal(text, at, before):
 
 
 def read_default(text, at):
-    """A default text, and where the `,` or `)` behind it stands."""
+    """A default text, and where the `,` or `)` after it stands."""
     level, kept = 0, []
     for token in text_tokens(text[at:]):
         if token.fault:
             break
         if level == 0 and (token.kind == "comma" or token.text == b")"):
             return b"".join(kept).strip(WHITE), at
-        level = level_behind(token, level)
+        level = level_after(token, level)
         at += len(token.text)
         if token.kind != "line_comment":
             kept.append(token.text)
     raise Refusal(18)
 
 
-def level_behind(token, level):
+def level_after(token, level):
     if token.kind == "opener":
         return level + 1
     return level - 1 if token.kind == "closer" and level > 0 else level
@@ -233,7 +233,7 @@ class Reading:
     """What comes of a main text, with the words of a command line (`row_table.Asked`), from the macros of a table.
 
     `pieces` is the output: texts, each with the shown name and line of its first byte, and by how much the line grows
-    behind each of its LF bytes. `fault` is what ended it, `table` has the macros, and `opened` the path of each source that
+    after each of its LF bytes. `fault` is what ended it, `table` has the macros, and `opened` the path of each source that
     was opened, in order, once; a file is one source, by the first of its paths, which differ in `.` and `..` alone.
     """
 
@@ -361,9 +361,9 @@ class Reading:
         self.line_ends(file, file.take())
 
     def undef(self, file):
-        self.table.remove(self.name_behind(file, file.take()))
+        self.table.remove(self.name_after(file, file.take()))
 
-    def name_behind(self, file, token):
+    def name_after(self, file, token):
         """The name that a directive takes, on its line."""
         if file.peek() and file.peek().kind == "blank":
             file.take()
@@ -375,17 +375,17 @@ class Reading:
 
     def ifdef(self, file):
         token = file.take()
-        self.conditional(file, token, self.is_defined(self.name_behind(file, token)))
+        self.conditional(file, token, self.is_defined(self.name_after(file, token)))
 
     def ifndef(self, file):
         token = file.take()
-        self.conditional(file, token, not self.is_defined(self.name_behind(file, token)))
+        self.conditional(file, token, not self.is_defined(self.name_after(file, token)))
 
     def is_defined(self, name):
         return name in self.table.macros
 
     def conditional(self, file, token, holds):
-        """Reads a conditional from behind its first test."""
+        """Reads a conditional from after its first test."""
         if self.conditions == self.limits["conditions"]:
             raise self.at(26, token)
         self.conditions += 1
@@ -400,7 +400,7 @@ class Reading:
             if is_closing:
                 raise self.at(24, token)
             is_closing = word == b"else"
-            holds = not is_taken and (is_closing or self.is_defined(self.name_behind(file, token)))
+            holds = not is_taken and (is_closing or self.is_defined(self.name_after(file, token)))
         self.conditions -= 1
 
     def include(self, file):
@@ -440,9 +440,9 @@ class Reading:
         if not 1 <= int(given[1]) <= 2147483647 or not 1 <= len(given[2]) <= 1024:
             raise self.at(30, token)
         file.take()
-        behind = file.name, file.shown(token.line)
+        after = file.name, file.shown(token.line)
         file.name, file.first, file.number = given[2], token.line + 1, int(given[1])
-        self.write(b"\n" * token.text.count(b"\n"), *behind, 0)
+        self.write(b"\n" * token.text.count(b"\n"), *after, 0)
         self.origin(file.name, file.number)
 
     # usages
@@ -478,16 +478,16 @@ class Reading:
             raise self.broken(self.open_files[-1], token)
 
     def usage(self, items, at, depth, inside, outermost):
-        """Writes the expansion of the usage at a place among items, and answers the place behind it."""
+        """Writes the expansion of the usage at a place among items, and answers the place after it."""
         name, place = items[at].text[1:], outermost or self.place_of(items[at])
         if name in RESERVED:
             raise Fault(9, *place, name)
         macro = self.table.macros.get(name)
         if not macro or name in inside:
             raise Fault(8 if macro else 7, *place, name)
-        actuals, behind = None, at + 1
+        actuals, after = None, at + 1
         if macro.formals is not None:
-            actuals, behind = self.actuals(items, at, Call(name, place, outermost is None))
+            actuals, after = self.actuals(items, at, Call(name, place, outermost is None))
             if not macro.formals and actuals == [[]]:
                 actuals = []
             if len(actuals) != len(macro.formals):
@@ -495,10 +495,10 @@ class Reading:
         if depth == 0:
             raise Fault(14, *place)
         self.expand(substituted(name, macro, actuals, inside), depth - 1, inside | {name}, place)
-        return behind
+        return after
 
     def actuals(self, items, at, call):
-        """The actuals of the call of the usage at a place among items, and the place behind its `)`."""
+        """The actuals of the call of the usage at a place among items, and the place after its `)`."""
         at = self.call_start(items, at + 1, call)
         level, kept, parts = 0, 0, [[]]
         for at in range(at, len(items)):
@@ -511,7 +511,7 @@ class Reading:
                     raise Fault(12, *call.place, call.name)
             if item.fault:
                 raise self.broken(self.open_files[-1], item)
-            level = level_behind(item, level)
+            level = level_after(item, level)
             if level == 0 and item.kind == "comma":
                 parts.append([])
             elif item.kind != "line_comment":
@@ -519,7 +519,7 @@ class Reading:
         raise Fault(11, *call.place, call.name)
 
     def call_start(self, items, at, call):
-        """The place behind the `(` of a call."""
+        """The place after the `(` of a call."""
         while at < len(items) and items[at].kind in PASSED and not items[at].fault:
             at += 1
         if at < len(items) and items[at].fault and items[at].kind != "string":

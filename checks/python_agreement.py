@@ -35,7 +35,7 @@ class Told:
 
 
 def prerequisites(rule):
-    """The sources of a rule for make: what its first line names behind the target, where `\\` LF goes on."""
+    """The sources of a rule for make: what its first line names after the target, where `\\` LF goes on."""
     first = re.split(r"(?<!\\)\n", rule.decode(), maxsplit=1)[0]
     words = re.findall(r"(?:\\.|[^\s\\])+", first.replace("\\\n", " "))
     return tuple(re.sub(r"\\([ #:\t])", r"\1", word).replace("$$", "$") for word in words[1:])
@@ -123,9 +123,9 @@ def check_files(tally):
     for name, main, text in (
         ("no main file", "no", b""),
         ("a folder as the main file", "d", b""),
-        ("a main file behind a file", "m/i", b""),
+        ("a main file after a file", "m/i", b""),
         ("a folder as an included file", "m", b'a\n`include "d"\n'),
-        ("a file behind a file", "m", b'a\n`include "m/i"\n'),
+        ("a file after a file", "m", b'a\n`include "m/i"\n'),
         ("a file that is nowhere", "m", b'a\n`include "no"\n'),
         ("a device without an end", "m", b'a\n`include "/dev/zero"\n'),
         ("an empty device", "m", b'a`include "/dev/null"\nb\n'),

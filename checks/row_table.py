@@ -16,7 +16,7 @@ REPORT = re.compile(rb"(.*):([0-9]+): error F([0-9]+): ([^']*?)(?: '(.*)')?", re
 
 
 def field_of(limit):
-    """The field of a limit that an option sets, of which this is the rest behind `--max-`."""
+    """The field of a limit that an option sets, of which this is the rest after `--max-`."""
     field = limit.replace("-", "_")
     return FIELDS.get(field, field)
 

@@ -24,7 +24,7 @@
  *
  * TEXTS TOLD IN BUFFERS
  *     A text is written to a buffer as by snprintf, but without a zero byte: its first bytes, as many
- *     as the buffer has room for; and its whole length is told. The bytes of the buffer behind them
+ *     as the buffer has room for; and its whole length is told. The bytes of the buffer after them
  *     stay as they are.
  *
  * HANDLES
@@ -264,7 +264,7 @@ rdlpp_outcome rdlpp_reopen(
     rdlpp_handle *handle);
 
 /*
- * Writes the next bytes of the output to `out`. The bytes of `out` behind them stay. The bytes of all
+ * Writes the next bytes of the output to `out`. The bytes of `out` after them stay. The bytes of all
  * reads, in order, are the output of rdlpp_preprocess.
  *
  * The answer is RDLPP_WHOLE where the output ended, RDLPP_STOPPED where a fault ended it, and RDLPP_CLOSED
@@ -304,7 +304,7 @@ uint32_t rdlpp_give(
 
 /*
  * Gives a handle a part of the next text, which is copied: what rdlpp_give or rdlpp_give_once gives next goes on
- * behind it, as behind the parts before it. So a file is given while it is read, and the last call may give no more
+ * after it, as after the parts before it. So a file is given while it is read, and the last call may give no more
  * bytes. `more` is about how many bytes will follow, for which memory is asked at once; it may be 0.
  *
  * The parts belong to the next source that is told, by rdlpp_give, rdlpp_give_once, rdlpp_lend, rdlpp_give_absent or
@@ -343,7 +343,7 @@ uint32_t rdlpp_lend(
     const char *path, size_t path_length,
     const char *text, size_t text_length);
 
-/* Tells a handle that there is no source at `path`, as rdlpp_give does: a search goes on behind it. */
+/* Tells a handle that there is no source at `path`, as rdlpp_give does: a search goes on after it. */
 uint32_t rdlpp_give_absent(rdlpp_handle *handle, const char *path, size_t path_length);
 
 /*
@@ -359,7 +359,7 @@ uint32_t rdlpp_give_failed(rdlpp_handle *handle, const char *path, size_t path_l
  *
  * The answer has the status RDLPP_WHOLE, the line in `line`, and in `number` 1 where each LF byte of what
  * was read begins the next line of its source, and 0 where all of it stands at that one line;
- * RDLPP_MORE where there is no place, as before the first read, behind the end and behind a fault; and
+ * RDLPP_MORE where there is no place, as before the first read, after the end and after a fault; and
  * RDLPP_CLOSED where the handle is closed.
  */
 rdlpp_outcome rdlpp_position(rdlpp_handle *handle, char *name, size_t name_length);
@@ -375,7 +375,7 @@ typedef struct rdlpp_mapped {
 
 /*
  * Reads as rdlpp_read does, and writes the line map of what was read to `map`. All that the calls write
- * there, in order, are the lines of a line map file behind its first line: OUT TAB LINE TAB STEP TAB NAME LF
+ * there, in order, are the lines of a line map file after its first line: OUT TAB LINE TAB STEP TAB NAME LF
  * says that line OUT of the output, from 1, has the place NAME:LINE, and that each line after it, up to
  * the next such line, has the line before it plus STEP, which is 1 or 0.
  *

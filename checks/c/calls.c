@@ -194,8 +194,8 @@ static void waits_for_output(void)
     }
     strcat(source, "a`A18 b\n");
     told = call(&asked, source);
-    check(told.outcome.status == RDLPP_WHOLE && told.outcome.length == 23, "the output behind many steps without any");
-    check(memcmp(told.out + 19, "a b\n#", 5) == 0, "what is behind them");
+    check(told.outcome.status == RDLPP_WHOLE && told.outcome.length == 23, "the output after many steps without any");
+    check(memcmp(told.out + 19, "a b\n#", 5) == 0, "what is after them");
 }
 
 static void tells_texts(void)

@@ -96,7 +96,7 @@ static rdlpp_outcome read_pieces(const rdlpp_request *asked, size_t room, const 
     return outcome;
 }
 
-/* The number at a place, behind which a tab stands; the place goes behind that. */
+/* The number at a place, after which a tab stands; the place goes after that. */
 static unsigned long long number_at(const char **at)
 {
     char *end;

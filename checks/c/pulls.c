@@ -36,7 +36,7 @@ static rdlpp_outcome read_some(rdlpp_handle *handle)
     return rdlpp_read(handle, out, ROOM, name, sizeof name, word, sizeof word);
 }
 
-/* Whether a read asks for a path, behind so many bytes. */
+/* Whether a read asks for a path, after so many bytes. */
 static int wants(const rdlpp_outcome *outcome, const char *path, size_t length)
 {
     return outcome->status == RDLPP_WANTED && outcome->number == 0 && outcome->line == 0 && outcome->word_length == 0
@@ -96,7 +96,7 @@ static void asks_for_each_candidate(void)
     check(wants(&outcome, "m", 0), "and again where nothing was given");
     check(give(&handle, "m", "a\n`include \"i\"\nb\n") == RDLPP_WHOLE, "it is taken");
     outcome = read_some(&handle);
-    check(wants(&outcome, "i", 2) && gave(&outcome, "a\n"), "the included source, behind the output before it");
+    check(wants(&outcome, "i", 2) && gave(&outcome, "a\n"), "the included source, after the output before it");
     outcome = read_some(&handle);
     check(wants(&outcome, "i", 0), "and again, with no bytes");
     check(give_absent(&handle, "i") == RDLPP_WHOLE, "it is absent");
@@ -275,7 +275,7 @@ static void notes_what_ended_it(void)
     rdlpp_close(&handle);
 }
 
-/* What is given once goes behind what is known, and is asked for again while it is open. */
+/* What is given once goes after what is known, and is asked for again while it is open. */
 static void gives_once_what_is_known(void)
 {
     static const char guarded[] = "`ifndef G\n`define G\n`include \"j\"\n`endif\n";
@@ -315,7 +315,7 @@ static void gives_once_what_is_known(void)
     rdlpp_close(&handle);
 }
 
-/* A text may be given by parts, whose last one has no bytes of its own; none is left behind what is told next. */
+/* A text may be given by parts, whose last one has no bytes of its own; none is left after what is told next. */
 static void gives_by_parts(void)
 {
     rdlpp_handle handle = RDLPP_CLOSED_HANDLE;
@@ -487,7 +487,7 @@ static void comes_back_from_nothing(int reads)
 }
 
 /*
- * Ten doublings of nothing before each byte: a read of 4,096 bytes comes back behind a few of them, with a line map or without, and
+ * Ten doublings of nothing before each byte: a read of 4,096 bytes comes back after a few of them, with a line map or without, and
  * all are read.
  */
 static void comes_back_between_bytes(int count, int is_mapped)
@@ -510,7 +510,7 @@ static void comes_back_between_bytes(int count, int is_mapped)
         outcome = is_mapped
             ? rdlpp_read_mapped(&handle, out, ROOM, map, sizeof map, name, sizeof name, word, sizeof word).outcome
             : read_some(&handle);
-        check(outcome.length < 40, "a read comes back behind a few bytes");
+        check(outcome.length < 40, "a read comes back after a few bytes");
         length += outcome.length;
     } while (outcome.status == RDLPP_MORE);
     check(outcome.status == RDLPP_WHOLE && length == 11 + (size_t)count, "all of the output");

@@ -43,7 +43,7 @@ static rdlpp_outcome open_text(rdlpp_handle *handle, const char *source, const c
     return outcome;
 }
 
-/* Reads to the end with a buffer of so many bytes, behind which there are marks. */
+/* Reads to the end with a buffer of so many bytes, after which there are marks. */
 static struct read read_all(rdlpp_handle *handle, size_t room)
 {
     struct read read;
@@ -53,7 +53,7 @@ static struct read read_all(rdlpp_handle *handle, size_t room)
         char out[ROOM];
         memset(out, '#', sizeof out);
         read.outcome = rdlpp_read(handle, out, room, read.name, ROOM, read.word, ROOM);
-        check(read.outcome.length <= room && out[read.outcome.length] == '#', "nothing is written behind the bytes");
+        check(read.outcome.length <= room && out[read.outcome.length] == '#', "nothing is written after the bytes");
         memcpy(read.out + read.length, out, read.outcome.length);
         read.length += read.outcome.length;
     } while (read.outcome.status == RDLPP_MORE);
@@ -192,7 +192,7 @@ static void spreads_long_lines(void)
     check(count_reads("", "`define M ", "") > 5, "a read takes few long definitions");
     check(count_reads("`ifdef N\n", "", "`endif\n") > 2, "a read takes few long lines of skipped text");
     check(count_call_reads("") > 15, "a read takes few long calls in macro text");
-    check(count_call_reads("x") > 15, "a read takes few long calls in macro text behind bytes");
+    check(count_call_reads("x") > 15, "a read takes few long calls in macro text after bytes");
 }
 
 int main(void)

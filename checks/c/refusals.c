@@ -83,7 +83,7 @@ static rdlpp_outcome reopen_by(rdlpp_limits limits, char *out, size_t room)
         granted = 0;
         outcome = rdlpp_read(&handle, out, room, out, 0, out, 0);
     } else if (blocks != 0 || handle.is_open) {
-        fprintf(stderr, "refusals.c: %ld blocks kept behind a refused rdlpp_reopen\n", blocks);
+        fprintf(stderr, "refusals.c: %ld blocks kept after a refused rdlpp_reopen\n", blocks);
         outcome.status = RDLPP_CLOSED;
     }
     rdlpp_close(&handle);
@@ -235,7 +235,7 @@ static long give_again(void)
         other = rdlpp_give_once(&handle, "a", 1, "other", 5);
         rdlpp_close(&handle);
         if (again != RDLPP_WHOLE || other != RDLPP_CHANGED || blocks != 0) {
-            fprintf(stderr, "refusals.c: %u and %u behind refused allocation %ld\n", again, other, refused);
+            fprintf(stderr, "refusals.c: %u and %u after refused allocation %ld\n", again, other, refused);
             return -1;
         }
         refused += 1;

@@ -144,7 +144,7 @@ static int give(const struct run *run, struct told *told, rdlpp_handle *handle, 
     return 1;
 }
 
-/* What one read told, with the place and the notes behind it. */
+/* What one read told, with the place and the notes after it. */
 static rdlpp_outcome read_some(const struct run *run, struct told *told, rdlpp_handle *handle, char *name, size_t name_room)
 {
     char out[64], word[64], text[256];
@@ -202,12 +202,12 @@ static void expect(const struct run *before, const struct run *run, const struct
 {
     const struct told *wanted = &alone[run - runs];
     if (told->length != wanted->length || memcmp(told->text, wanted->text, told->length) != 0) {
-        fprintf(stderr, "reopens.c: %s: not as alone behind %s\n", run->shows, before->shows);
+        fprintf(stderr, "reopens.c: %s: not as alone after %s\n", run->shows, before->shows);
         failures += 1;
     }
 }
 
-/* Each run behind each other one, and behind itself. */
+/* Each run after each other one, and after itself. */
 static void follows_each_run(void)
 {
     static struct told told;
@@ -227,8 +227,8 @@ static void follows_each_run(void)
     }
 }
 
-/* The kind of the fault that ends a run behind another one, and 0 where none does. */
-static uint32_t fault_behind(const char *before, const char *text, const char **name, uint64_t *line)
+/* The kind of the fault that ends a run after another one, and 0 where none does. */
+static uint32_t fault_after(const char *before, const char *text, const char **name, uint64_t *line)
 {
     static char names[64];
     const struct run first = {"", before, "", "W", NOTHING, 64, -1, false, false, false, 0, 100};
@@ -250,11 +250,11 @@ static void sees_nothing_of_the_text_before(void)
 {
     const char *name;
     uint64_t line;
-    check(fault_behind("`define M 1\n", "`M", &name, &line) == RDLPP_FAULT_UNDEFINED_MACRO, "a macro");
-    check(fault_behind("a", "`W", &name, &line) == RDLPP_FAULT_UNDEFINED_MACRO, "a definition");
-    check(fault_behind("`ifdef X\n", "`ifdef X\n", &name, &line) == RDLPP_FAULT_CONDITIONAL_NOT_CLOSED && line == 1, "a conditional");
-    check(fault_behind("`ifdef X\n", "a\n", &name, &line) == 0, "skipped text");
-    check(fault_behind("`line 9 \"v.rdl\" 0\n", "\n`Q", &name, &line) == RDLPP_FAULT_UNDEFINED_MACRO && line == 2, "a line");
+    check(fault_after("`define M 1\n", "`M", &name, &line) == RDLPP_FAULT_UNDEFINED_MACRO, "a macro");
+    check(fault_after("a", "`W", &name, &line) == RDLPP_FAULT_UNDEFINED_MACRO, "a definition");
+    check(fault_after("`ifdef X\n", "`ifdef X\n", &name, &line) == RDLPP_FAULT_CONDITIONAL_NOT_CLOSED && line == 1, "a conditional");
+    check(fault_after("`ifdef X\n", "a\n", &name, &line) == 0, "skipped text");
+    check(fault_after("`line 9 \"v.rdl\" 0\n", "\n`Q", &name, &line) == RDLPP_FAULT_UNDEFINED_MACRO && line == 2, "a line");
     check(memcmp(name, "m#", 2) == 0, "a name");
 }
 

@@ -140,7 +140,7 @@ static bool has_room(const size_t limits[LIMITS])
     return false;
 }
 
-/* The bytes that a call asks for by which a text is told; none where it or the reads behind it fail. */
+/* The bytes that a call asks for by which a text is told; none where it or the reads after it fail. */
 static size_t bytes_of(uint32_t (*tells)(rdlpp_handle *, const char *, size_t, const char *, size_t))
 {
     static char lines[100000];

@@ -115,7 +115,7 @@ void asks_for_sources()
 }
 
 // What a callable throws comes through, and the stream goes on where the next call doesn't throw.
-void goes_on_behind_an_exception()
+void goes_on_after_an_exception()
 {
     int calls = 0;
     rdlpp::request request;
@@ -140,7 +140,7 @@ void goes_on_behind_an_exception()
             thrown += 1;
         }
     }
-    check(thrown == 2 && out == "a\nb\n\nc\n" && !stream.stopped(), "the output behind two exceptions");
+    check(thrown == 2 && out == "a\nb\n\nc\n" && !stream.stopped(), "the output after two exceptions");
 }
 
 // A reader that is asked again where a source is included again: the same text, and then another one.
@@ -276,7 +276,7 @@ void tells_places()
     check(map == "1\t1\t1\tm\n5\t4\t1\tm\n", "the line map");
 }
 
-// One stream for many outputs: behind a whole one, a fault, a part, refusals and a source that is asked for, none is seen.
+// One stream for many outputs: after a whole one, a fault, a part, refusals and a source that is asked for, none is seen.
 void opens_again()
 {
     rdlpp::preprocessor preprocessor;
@@ -331,7 +331,7 @@ void reopens_streams()
     } catch (const std::logic_error &) {
     }
     stream.reopen(asked("`Q"));
-    check(!stream.read(out) && stream.stopped() && out == "abc", "a fault behind a refusal");
+    check(!stream.read(out) && stream.stopped() && out == "abc", "a fault after a refusal");
     rdlpp::stream moved(std::move(stream));
     stream.reopen(asked("xy"));
     check(stream.read(out) && out == "abcxy" && moved.stopped(), "a stream that was moved from is opened");
@@ -345,7 +345,7 @@ int main()
     tells_a_fault();
     refuses_what_is_asked();
     asks_for_sources();
-    goes_on_behind_an_exception();
+    goes_on_after_an_exception();
     asks_again();
     moves_streams();
     moves_a_stream_that_asks();

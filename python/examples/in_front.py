@@ -23,7 +23,7 @@ def led_back(messages: str, path: str, lines: rdlpp.Lines) -> str:
     """Messages of a compiler in which each line of the file at `path` is the place that it comes from."""
 
     def place(told: "re.Match[str]") -> str:
-        # a compiler may name the line behind the last one
+        # a compiler may name the line after the last one
         line = min(max(int(told[1]), 1), len(lines))
         return "{}:{}".format(*lines.place(line)) if line else told[0]
 

@@ -48,7 +48,7 @@ class Parts(Protocol):
     most: int
 
     def room(self, least: int, more: int) -> int:
-        """The address of room for the next part, which has at most so many bytes; about so many more follow behind it."""
+        """The address of room for the next part, which has at most so many bytes; about so many more follow after it."""
 
     def take(self, length: int, more: int) -> None:
         """Takes so many bytes that stand there; about so many more follow."""

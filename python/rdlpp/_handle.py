@@ -23,7 +23,7 @@ class OwnedHandle:
     Attributes:
         is_small: whether the limits by which it was opened last let it have so little memory that it may be kept.
         at: where the handle is, as calls take it.
-        buffers: the room for a name and, behind it, for a word.
+        buffers: the room for a name and, after it, for a word.
         word: where the word stands.
         told: the room for both, as calls take it.
         place, most: where a read writes to, and how many bytes at most.

@@ -176,7 +176,7 @@ class Reading:
         _raise_refusal(library.lend(self._handle.at, path, len(path), place, length))
 
     def room(self, least: int, more: int) -> int:
-        """Room for a part of an included text: behind what was written so far, where nothing stands yet."""
+        """Room for a part of an included text: after what was written so far, where nothing stands yet."""
         assert self._written is not None
         self._part = self._written.end(least)
         return self._part
@@ -187,7 +187,7 @@ class Reading:
         self.text_bytes += length
 
     def rest(self) -> bytes:
-        """What follows behind the parts: nothing."""
+        """What follows after the parts: nothing."""
         return b""
 
     def _end(self, outcome: library.Outcome) -> None:

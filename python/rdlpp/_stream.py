@@ -21,7 +21,7 @@ MOST_ROOM = 1_073_741_824
 class Stream(Iterator[bytes], AsyncIterator[bytes]):
     """The pieces of an output, in order; none is empty. `stream` makes it.
 
-    It ends where the output ends, and raises the fault that ends it behind the pieces before it. It is read and
+    It ends where the output ends, and raises the fault that ends it after the pieces before it. It is read and
     closed in any thread, by one call at a time; others wait. A call looks every few milliseconds whether the
     stream was closed meanwhile, and then ends by a ValueError. Any exception but a fault closes it, so that no
     bytes are lost unseen.

@@ -26,7 +26,7 @@ _advise.argtypes = [ctypes.c_void_p, ctypes.c_size_t, ctypes.c_int]
 
 MARGIN = 65_536
 FEW = 1_024
-# Where the bytes of an object stand in it: it has all of them but one, a zero byte, behind its head.
+# Where the bytes of an object stand in it: it has all of them but one, a zero byte, after its head.
 HEAD = bytes.__basicsize__ - 1
 PAGE = 4_096
 HUGE_PAGES, SMALL_PAGES = 14, 15
@@ -47,7 +47,7 @@ def roomy(length: int) -> int:
 
 
 class Written:
-    """Room for bytes, which are written behind those that were, and then taken as a bytes object, once.
+    """Room for bytes, which are written after those that were, and then taken as a bytes object, once.
 
     Attributes:
         place: where they stand.
@@ -68,7 +68,7 @@ class Written:
         prefer(HUGE_PAGES, self.place, room)
 
     def end(self, least: int) -> int:
-        """The address behind the bytes that were written, with room for so many more at least. What stands there stays
+        """The address after the bytes that were written, with room for so many more at least. What stands there stays
         where room is made."""
         if self.room - self.filled < least:
             room = max(self.filled + least, 2 * self.room)
@@ -83,7 +83,7 @@ class Written:
         return cast(bytes, ctypes.py_object.from_buffer(self._held).value)
 
     def _grow(self, room: int) -> None:
-        # A zero byte is written behind the room, for which no huge page should be made.
+        # A zero byte is written after the room, for which no huge page should be made.
         prefer(SMALL_PAGES, self.place, self.room)
         _resize(ctypes.byref(self._held), room + 1)
         self.place, self.room = cast(int, self._held.value) + HEAD, room

@@ -42,7 +42,7 @@ FAULTS = {
     "at a directive": b"`undef\n",
     "in skipped text": b"`ifdef X\n`ifdef Y\n/* ",
     "at an elsif": b"`ifdef X\n`elsif\n`endif\n",
-    "behind an else": b"`ifdef X\n`else\n`else\n",
+    "after an else": b"`ifdef X\n`else\n`else\n",
     "at a lone endif": b"`endif\n",
     "in a conditional": b"`ifndef X\nopen\n",
     "in many conditionals": b"`ifndef X\n" * 5,

@@ -198,7 +198,7 @@ class Faults(unittest.TestCase):
                         del fault
                     self.assertIsNone(kept())
 
-    def test_a_fault_behind_a_long_output(self):
+    def test_a_fault_after_a_long_output(self):
         fault = self.fault(b"`W\n" * 1000 + b"`Q", defines={"W": "x" * 1000})
         self.assertEqual((fault.output, fault.line), ((b"x" * 1000 + b"\n") * 1000, 1001))
 

@@ -44,7 +44,7 @@ class Rows(unittest.TestCase):
         self.assertEqual((output, fault), (row.output, row.fault.decode()))
 
     def check_stream(self, row, room, positions=False):
-        """Reads a row in pieces, and compares them joined, and the fault behind them."""
+        """Reads a row in pieces, and compares them joined, and the fault after them."""
         pieces, fault = [], ""
         try:
             for piece in rdlpp.stream(row.main, files=row.files, room=room, positions=positions, **asked(row.words)):

@@ -291,7 +291,7 @@ class Files(Sources):
         self.assertEqual(fault.partial.sources, ("m", "d"))
         self.assertEqual(str(self.fault("d")), "d:1: error F32: read failed")
 
-    def test_a_path_behind_a_file(self):
+    def test_a_path_after_a_file(self):
         self.write("m", b'\n`include "m/i"\n')
         fault = self.fault("m")
         self.assertEqual(str(fault), "m:2: error F32: read failed")

@@ -18,7 +18,7 @@ FILES = {"m": SOURCE, "inc/i": b"q"}
 WHOLE = b"\n<long body>q\n\n8\n"
 # Macros that double nothing so often that no run of them ends in a lifetime.
 NOTHING = b"`define E0\n" + b"".join(b"`define E%d `E%d`E%d\n" % (n + 1, n, n) for n in range(60)) + b"`E60\n"
-# Lines that each give some bytes behind 32,768 steps that give none.
+# Lines that each give some bytes after 32,768 steps that give none.
 RARE = NOTHING[: NOTHING.index(b"`define E15")] + b"`define L `E14 x\n" + b"`L\n" * 1_000_000
 
 
@@ -77,7 +77,7 @@ class Positions(unittest.TestCase):
 
 
 class Faults(unittest.TestCase):
-    def test_a_fault_behind_its_pieces(self):
+    def test_a_fault_after_its_pieces(self):
         for room in (1, 2, 3, 64):
             given, caught = [], None
             pieces = rdlpp.stream(b'a\n`line 10 "v.rdl" 0\n`Unknown', room=room)
@@ -275,7 +275,7 @@ class Tasks(unittest.TestCase):
 
         self.assertEqual(asyncio.run(read()), [b"a", b"b", 1, [b"c", b"d"]])
 
-    def test_a_fault_behind_its_pieces(self):
+    def test_a_fault_after_its_pieces(self):
         given = rdlpp.stream(b"a\n`Q", room=1)
         got, fault = self.read(given)
         self.assertEqual((got, str(fault)), ([b"a", b"\n"], "-:2: error F7: undefined macro 'Q'"))

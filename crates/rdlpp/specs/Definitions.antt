@@ -24,7 +24,7 @@ pub data Given : Type 0 where
 unfoldable pub refused_definition : DefineKind → List ℕ → ℕ → Report
 refused_definition kind word place = record { kind = define_fault kind; name = codes "-D"; line = place; word = word }
 
--- the macros of definitions, each a name and a text, in order behind others, where so many definitions stand before them;
+-- the macros of definitions, each a name and a text, in order after others, where so many definitions stand before them;
 -- they may have so many bytes and be so many (source: this project's profile)
 unfoldable pub given : ℕ → ℕ → ℕ → List Macro → List Pair → Given
 given most_bytes most_macros before macros [] = Taken macros

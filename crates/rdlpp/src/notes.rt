@@ -19,7 +19,7 @@ use std::io::{self, Write};
 ///
 /// Of a source that wasn't found, or whose path is too long, the name that was asked for, and each path that was tried: `folders`
 /// are the include folders, in the order of the search. Of a limit that was passed its value and its option. Of a wrong number of
-/// arguments how many the macro takes, and how many there are. Of a backquote without a name what stands behind it. Of a macro
+/// arguments how many the macro takes, and how many there are. Of a backquote without a name what stands after it. Of a macro
 /// that isn't defined that its name is a directive's which is left out, where it is. Of a fault in macro text the innermost macro
 /// in whose text it stands. And the sources that include the one of the fault, the innermost first.
 ///
@@ -133,7 +133,7 @@ fn further_parts(text: &[u8]) -> u64 {
     text.len() as u64
 }
 
-// Writes in the text of which macro a fault of the open texts of a usage was met. The two kinds that are none of theirs come behind
+// Writes in the text of which macro a fault of the open texts of a usage was met. The two kinds that are none of theirs come after
 // what is lent.
 fn write_text_of<S: Sources, W: Write>(
     kind: FaultKind,
@@ -166,7 +166,7 @@ fn macro_of(source: TextSource) -> Option<MacroId>
     }
 }
 
-// Writes what stands behind the backquote at which the engine stands, in a text of a usage or in a source, if it stands at one.
+// Writes what stands after the backquote at which the engine stands, in a text of a usage or in a source, if it stands at one.
 fn write_after<S: Sources, W: Write>(engine: &Engine<S>, writer: &mut W) -> io::Result<()> {
     let front = match engine.innermost_text() {
         Some(place) => text_at(engine.table(), engine.arguments(), place),
@@ -175,7 +175,7 @@ fn write_after<S: Sources, W: Write>(engine: &Engine<S>, writer: &mut W) -> io::
     if !front.starts_with(b"`") {
         return Ok(());
     }
-    write_parts(&[NOTE, b"behind the backquote stands "], writer)?;
+    write_parts(&[NOTE, b"after the backquote stands "], writer)?;
     match front.get(1) {
         None => write_whole(b"nothing\n", writer),
         Some(b'\n') => write_whole(b"the line's end\n", writer),

@@ -93,7 +93,7 @@ ends_after old mid new xs ys e l is = record {
   is = l ∙ ap (and_then (gives xs)) is.is ∙ ended_after xs ys (ended_with (Some e) new.engine.kept);
 }
 
--- what was read so far, and the count of its bytes behind so many
+-- what was read so far, and the count of its bytes after so many
 pub record PassesOver (old new : View) (before now : ℕ) : Type 0 where
   pub bytes : List ℕ
   pub leaves : Leaves text_sources old new bytes None
@@ -183,7 +183,7 @@ read_whole old new before after len count e fault same_count fits f l same =
       front = overwritten_part before after len f.inside f.size f.following size;
     }
 
--- an output that went on behind a full buffer
+-- an output that went on after a full buffer
 pub read_rest : (old mid new : View) (before after : List ℕ) (len all count : ℕ) (e : ReadEnd) (fault : Option Report) → count ≡ all
     → Fills text_sources old mid before after len None → Leaves text_sources old mid (take len after) None → Counted text_sources mid new len all e
     → fault ≡ ended_with (Some e) new.engine.kept → IsRead (reading_left text_sources old) before after count fault

@@ -76,7 +76,7 @@ own_kind OutputBytes = refl
 pub text_numbered : (number : ℕ) (kind : FaultKind) → fault_number kind ≡ number → fault_text number ≡ kind_text kind
 text_numbered number kind is = ap fault_text (sym is) ∙ ap found_text (own_kind kind)
 
--- the kinds of a list have the numbers behind a number
+-- the kinds of a list have the numbers after a number
 abbrev AreNumbered : ℕ → List FaultKind → Type 0
 AreNumbered before [] = ⊤
 AreNumbered before (kind ∷ rest) = (fault_number kind ≡ suc before) × AreNumbered (suc before) rest
@@ -119,7 +119,7 @@ numbered_from (suc place) other some within =
     let before : suc place - 1 ≡ place = omega arith in
     ap (λ (k : ℕ). Some (get_or kinds k other)) before ∙ sym (slice_get-get_or kinds place other (omega arith))
 
--- no kind is before the first or behind the last
+-- no kind is before the first or after the last
 pub not_numbered : (number : ℕ) → (number ≡ 0) ⊎ ((number ≡ 0 → ⊥) × 35 < number) → None ≡ kind_numbered number
 not_numbered number (inl is) = ap kind_numbered (sym is)
 not_numbered zero (inr (some, past)) = refl

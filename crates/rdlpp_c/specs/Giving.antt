@@ -41,7 +41,7 @@ pub record LeavesParts (before after : Stream) : Type 0 where
   pub none : after.parts.items ≡ []
   pub only : after ≡ record before { parts = after.parts }
 
--- a part of a text that is given: it stands behind the parts before it; or memory was refused, and no part came
+-- a part of a text that is given: it stands after the parts before it; or memory was refused, and no part came
 pub record GivesPart (part : List ℕ) (before after : Stream) (status : ℕ) : Type 0 where
   pub comes : ((status ≡ 0) × (after.parts.items ≡ before.parts.items ++ part)) ⊎ ((status ≡ 4) × (after.parts.items ≡ before.parts.items))
   pub only : after ≡ record before { parts = after.parts }
@@ -87,7 +87,7 @@ is_asked (Some wanted) path = bytes_eq wanted.bytes path
 abbrev pub changed_path : Result Given AllocError → Option (ArrayString 1024) → List ℕ → Option (ArrayString 1024) → Option (ArrayString 1024)
 changed_path given wanted path before = if is_refused given && is_asked wanted path then wanted else before
 
--- such a give to an open stream, behind the parts before it, and the status that tells it; no part of a text is left, and nothing else of it changes
+-- such a give to an open stream, after the parts before it, and the status that tells it; no part of a text is left, and nothing else of it changes
 pub record TellsOnce (path text : List ℕ) (before after : Stream) (status : ℕ) : Type 0 where
   pub answer : Result Given AllocError
   pub comes : ComesOnce (freed_at before.once before.reading.engine.sources) before.reading.engine.sources.asks path (before.parts.items ++ text) before.once after.reading.engine.sources after.once answer

@@ -11,7 +11,7 @@ use Rattle.rdlpp_c.specs.Buffers.{overwritten}
 pub record Ends {S R : Type 0} (g : Ghosts S R) (old new : ReadingView S R) (bytes : List ℕ) (ending : ReadEnd) : Type 0 where
   pub is : reading_left g old ≡ record { bytes = bytes; fault = ended_with (Some ending) new.engine.kept }
 
--- a reading came to the end of its output, whose bytes were counted behind so many
+-- a reading came to the end of its output, whose bytes were counted after so many
 pub record Counted {S R : Type 0} (g : Ghosts S R) (old new : ReadingView S R) (before after : ℕ) (ending : ReadEnd) : Type 0 where
   pub bytes : List ℕ
   pub ends : Ends g old new bytes ending

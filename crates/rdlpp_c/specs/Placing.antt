@@ -11,12 +11,12 @@ use Rattle.rdlpp_c.specs.declared.stream.Part.{Part}
 use Rattle.rdlpp_c.specs.declared.stream.Stream.{Stream}
 use Rattle.rdlpp_c.specs.declared.telling.Outcome.{Outcome}
 
--- the line behind so many LF bytes of a piece
+-- the line after so many LF bytes of a piece
 abbrev pub line_right_after : LineStep → ℕ → ℕ → ℕ
 line_right_after Next line passed = min (line + passed) (2 ^ 64 - 1)
 line_right_after Same line passed = line
 
--- the place behind so many LF bytes of a piece, by the place of its first byte
+-- the place after so many LF bytes of a piece, by the place of its first byte
 abbrev pub place_after : ℕ → Option PlaceView → Option PlaceView
 place_after passed None = None
 place_after passed (Some p) = Some (record { name = p.name; line = line_right_after p.step p.line passed; step = p.step })

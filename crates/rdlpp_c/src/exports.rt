@@ -14,7 +14,7 @@ use std::alloc::Global;
 /// `asks` and whether it reads `pieces` is of no account here.
 ///
 /// The front of the output is written to `out`, as much as there is room for, and its whole length is
-/// told; so it is with the shown name and the word of the fault that ended it. The bytes behind them
+/// told; so it is with the shown name and the word of the fault that ended it. The bytes after them
 /// stay as they are. Where a limit is out of its range, bytes aren't UTF-8 or memory was refused,
 /// nothing is written. The limits are looked at first, and then what has to be UTF-8: the paths, and
 /// the names and bodies of definitions.

@@ -18,7 +18,7 @@ use std::alloc::{AllocError, Global};
 use std::mem::replace;
 
 /// Gives an open output a part of a text, which is copied. The text that is given next, by `rdlpp_give` or
-/// `rdlpp_give_once`, goes on behind it, as behind the parts before it: so a file can be given while it is read. `more` is
+/// `rdlpp_give_once`, goes on after it, as after the parts before it: so a file can be given while it is read. `more` is
 /// about how many bytes will follow, for which memory is asked at once; it may be 0.
 ///
 /// Parts belong to the next source that is told, whatever is told of it and whatever the answer: none is left then.
@@ -42,7 +42,7 @@ pub extern "C" fn rdlpp_give_part(
 }
 
 /// Tells an open output the text of the source at `path`, which is copied: the parts that were given before, and `text`
-/// behind them. The first that is told of a path counts; of an output that doesn't ask all is told from the start.
+/// after them. The first that is told of a path counts; of an output that doesn't ask all is told from the start.
 ///
 /// The answer is 0; 3 where `path` isn't UTF-8, 4 where memory was refused, and 6 where the handle is
 /// closed: with these nothing changed, but that no part is left.
@@ -99,7 +99,7 @@ pub extern "C" fn rdlpp_lend(
     tell(alloc, handle, path, Standing::Text(SharedText::Lent(text)))
 }
 
-/// Tells an open output that there is no source at `path`, as `rdlpp_give` does: a search goes on behind it.
+/// Tells an open output that there is no source at `path`, as `rdlpp_give` does: a search goes on after it.
 #[unsafe(no_mangle)]
 pub extern "C" fn rdlpp_give_absent(alloc: Global, handle: &mut Handle, path: &[u8]) -> u32
     ensures { Gives (GivesStanding path.now Gone) handle.old.slot.value handle.new.slot.value result }

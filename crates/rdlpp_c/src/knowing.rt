@@ -52,7 +52,7 @@ fn add_text(alloc: Global, sources: &mut AskedTexts, text: &Text<'_>) -> Result<
     }
 }
 
-// A text that goes on behind parts of it, and that its readers share. What isn't a part yet is copied.
+// A text that goes on after parts of it, and that its readers share. What isn't a part yet is copied.
 pub(crate) fn shared_text(
     alloc: Global,
     parts: Vec<u8>,

@@ -84,7 +84,7 @@ impl Once {
         }
     }
 
-    // Gives the text of the source at a path, which goes on behind parts of it, and forgets the one that was given last. Its
+    // Gives the text of the source at a path, which goes on after parts of it, and forgets the one that was given last. Its
     // mark is kept: another text than the one that was given of this path before is told as a source that can't be opened.
     // Where memory was refused nothing is known of the path, as before.
     pub(crate) fn give(

@@ -33,7 +33,7 @@ pub(crate) fn read_output(reading: &mut Reading<Texts<'_>>, out: &mut [u8]) -> R
     }
 }
 
-// Reads an output to its end, and counts its bytes behind so many.
+// Reads an output to its end, and counts its bytes after so many.
 fn count_rest(reading: &mut Reading<Texts<'_>>, before: u64) -> End
     ensures { Counted text_sources reading.old reading.new before result.count result.ending }
 {

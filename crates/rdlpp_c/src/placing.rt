@@ -13,7 +13,7 @@ use std::alloc::Global;
 /// number 1 where each LF byte of what was read begins the next line, and 0 where all of it stands on that one.
 ///
 /// The status is 0; 5 where there is no place: where reads don't end with their pieces, where the last one wrote
-/// nothing, and behind the end or a fault; and 6 where the handle is closed.
+/// nothing, and after the end or a fault; and 6 where the handle is closed.
 #[unsafe(no_mangle)]
 pub extern "C" fn rdlpp_position(alloc: Global, handle: &mut Handle, name: &mut [u8]) -> Outcome
     ensures { Places handle.old.slot.value handle.new.slot.value name.old name.new result }

@@ -25,7 +25,7 @@ pub fn tell_fault(rt: &HostRuntime, fault: &PrepFault) {
     }
 }
 
-/// Tells a fault on standard error, and notes on it behind it. `places` tells where macros were defined; `failure` is the output's
+/// Tells a fault on standard error, and notes on it after it. `places` tells where macros were defined; `failure` is the output's
 /// last error, where it has one.
 pub fn tell_noted(
     rt: &HostRuntime,

@@ -104,7 +104,7 @@ module _ (class : ℕ → Bool) (are : AreSpaces class) where
   all_spaces l [] all = refl
   all_spaces l (b ∷ bs) all = one_space l b bs (all 0 (omega arith)) ∙ all_spaces l bs (λ k lt. all (suc k) (omega arith))
 
-  -- tokens behind which spaces alone stand
+  -- tokens after which spaces alone stand
   front_fill : (ts us : List Token) (l : ℕ) (text : List ℕ) → tokens_from Plain 0 text ≡ ts ++ us → AllByRecursion IsCleanToken ts
       → ((k : ℕ) → tokens_len ts ≤ k → k < length text → class (get_or text k 0) ≡ true) → fills l (ts ++ us) text ≡ true → fills l ts text ≡ true
   unfolding fills tokens_len
@@ -494,7 +494,7 @@ no_default_in text e = grind (arith, cond-false, no_default_left, size_is, none_
 pub no_default_at : (text joined_from joined_text : List ℕ) (size : ℕ) → joined_from ≡ [] → joined_text ≡ text → size ≡ 0 → eqb (get_or text 0 0) 61 ≡ false → IsDefault (default_in text) joined_from joined_text size
 no_default_at text from following size f t n e = rw (f, t, n) (no_default_in text e)
 
--- what stands behind a name and begins with `=` is a default text
+-- what stands after a name and begins with `=` is a default text
 pub default_at : (text : List ℕ) (b : ℕ) (from : List ℕ) → text ≡ b ∷ from → eqb b 61 ≡ true → default_in text ≡ default_after from
 unfolding default_in default_after
 default_at text b from t e = ap (λ (x : List ℕ). cond (eqb (get_or x 0 0) 61) (option_map trimmed_default (default_of_tokens 0 (tokens_from Plain 0 (drop 1 x)) (drop 1 x))) (Some (record { text = []; following = x }))) t ∙ cond-true _ _ _ e

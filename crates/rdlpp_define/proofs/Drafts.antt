@@ -125,7 +125,7 @@ named_reads name text e ok = grind (arith, cond-true)
 
 -- The formals that a list gives are sound.
 
--- a formal that may stand behind others
+-- a formal that may stand after others
 record IsNextFormal (before : List Formal) (f : Formal) : Type 0 where
   short : length f.name ≤ 128
   other : list_any (λ g. bytes_eq g.name f.name) before ≡ false
@@ -170,7 +170,7 @@ one_more_sound before f s n =
 listed_same : (before fs : List Formal) (after' after : List ℕ) → Listed (Some before) after' ≡ Listed (Some fs) after → before ≡ fs
 listed_same before fs after' after e = cc
 
--- by what stands behind the next formal
+-- by what stands after the next formal
 after_sound : (room : ℕ) (before : List Formal) (f : Formal) (following : List ℕ) (fs : List Formal) (after : List ℕ) → AreSoundFormals (before ++ f ∷ []) → (formals_in room (before ++ f ∷ []) (drop 1 following) ≡ Listed (Some fs) after → AreSoundFormals fs) → list_by room before (Good f following) ≡ Listed (Some fs) after → AreSoundFormals fs
 after_sound room before f following fs after s next e = grind (arith, cases_Bool, cond-true, listed_same, cond-false)
 

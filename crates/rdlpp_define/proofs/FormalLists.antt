@@ -178,7 +178,7 @@ read_bad text rest names slice size name tail f s e d =
     let g = sound_name text rest names slice size name tail f s e in
     next_by text rest names size name tail f g ∙ ap (list_by (254 - length f.read.before) f.read.before) (bad_at f.read.before rest name tail f.part g.fault d)
 
--- a formal was read: its default text, and what stands behind it
+-- a formal was read: its default text, and what stands after it
 pub record IsTaken (text rest : List ℕ) (names slice : List (List ℕ)) (size : ℕ) (name tail from following : List ℕ) (counted : ℕ) : Type 0 where
   pub found : IsFound text rest names size name tail
   pub slice_is : slice ≡ names
@@ -305,7 +305,7 @@ no_names f xs e = ap (map f) e
 
 -- Formals that are appended to a table's bytes, one after another.
 
--- the formal with which a list's text begins, behind no others
+-- the formal with which a list's text begins, after no others
 told_good : (text : List ℕ) (f : Formal) (following : List ℕ) → formal_in [] text ≡ Good f following → (formal_told text ≡ f) × (after_told text ≡ following) × (is_told text ≡ true)
 unfolding formal_told after_told is_told
 told_good text f following e = grind arith
@@ -363,7 +363,7 @@ told_is text name tail from following size p t d =
       len = λ h. d.len_is ∙ ap ok_len ((some_bytes (default_left from) (let k : 0 < default_size (default_left from) = omega (arith, d.size_is) in k)).1 ∙ ap (λ (n : ℕ). n - 1) d.size_is);
     }
 
--- a name without a fault behind others has none behind no others
+-- a name without a fault after others has none after no others
 three_false : (a b c : Bool) → three a b c ≡ None → three a b false ≡ None
 three_false true b c e = absurd (cc)
 three_false false true c e = absurd (cc)

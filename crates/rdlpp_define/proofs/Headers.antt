@@ -59,7 +59,7 @@ name_joined : (text : List ℕ) → leading_name (as_read true text) ≡ leading
 unfolding leading_name
 name_joined text = grind (arith, first_same, letter_line, letter_back, same_word)
 
--- what stands behind the name
+-- what stands after the name
 name_after : (text : List ℕ) → as_read true (drop (length (leading_name text)) text) ≡ drop (length (leading_name text)) (as_read true text)
 unfolding leading_name
 name_after text =
@@ -114,7 +114,7 @@ pub good_name : (name : List ℕ) → eqb (length name) 0 ≡ false → is_reser
 unfolding name_fault
 good_name name e is h = cond-false _ _ _ e ∙ (cond-false _ _ _ is ∙ cond-false _ _ _ (le-ltb _ _ h))
 
--- A `define` by its name and what stands behind it.
+-- A `define` by its name and what stands after it.
 
 -- the draft of a text by what is wrong with its name
 abbrev named_draft : List ℕ → List ℕ → Option DefineKind → Draft

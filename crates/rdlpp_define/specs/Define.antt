@@ -67,7 +67,7 @@ lexical Perl = kind.EmbeddedPerl
 lexical OpenString = kind.OpenString
 lexical OpenComment = kind.OpenComment
 
--- a default text, and what stands behind it
+-- a default text, and what stands after it
 pub record DefaultText : Type 0 where
   pub text : List ℕ
   pub following : List ℕ
@@ -94,18 +94,18 @@ default_of_tokens level (t ∷ ts) text =
 unfoldable pub trimmed_default : DefaultText → DefaultText
 trimmed_default d = record { text = trimmed_of is_space d.text; following = d.following }
 
--- the default text of a formal, by what stands behind its name: empty where no `=` stands there (this project's profile)
+-- the default text of a formal, by what stands after its name: empty where no `=` stands there (this project's profile)
 unfoldable pub default_in : List ℕ → Option DefaultText
 default_in following =
     if slice_index following 0 == 61 then option_map trimmed_default (default_of_tokens 0 (tokens_from Plain 0 (drop 1 following)) (drop 1 following))
     else Some (record { text = []; following = following })
 
--- a formal that was read and what stands behind it, or what is wrong with it
+-- a formal that was read and what stands after it, or what is wrong with it
 pub data OneFormal : Type 0 where
   Good : Formal → List ℕ → OneFormal
   FormalFault : DefineKind → OneFormal
 
--- the formals of a list and the text behind it, or what is wrong with them
+-- the formals of a list and the text after it, or what is wrong with them
 pub data FormalList : Type 0 where
   Listed : Option (List Formal) → List ℕ → FormalList
   FormalListFault : DefineKind → FormalList
@@ -114,11 +114,11 @@ pub data FormalList : Type 0 where
 unfoldable pub formal_name : List ℕ → List ℕ
 formal_name text = leading_name (after_space text)
 
--- what stands behind that name and the white space after it
+-- what stands after that name and the white space after it
 unfoldable pub after_name : List ℕ → List ℕ
 after_name text = after_space (drop (length (formal_name text)) (after_space text))
 
--- what is wrong with the name of a formal, behind other formals: no name stands there, it is too long, it was given before
+-- what is wrong with the name of a formal, after other formals: no name stands there, it is too long, it was given before
 -- (this project's profile)
 unfoldable pub formal_fault : List Formal → List ℕ → Option DefineKind
 formal_fault before name =
@@ -132,15 +132,15 @@ unfoldable pub with_default : List ℕ → Option DefaultText → OneFormal
 with_default name None = FormalFault kind.BadFormals
 with_default name (Some d) = Good (record { name = name; text = d.text }) d.following
 
--- the formal with which a list's text begins, behind other formals (this project's profile)
+-- the formal with which a list's text begins, after other formals (this project's profile)
 unfoldable pub formal_in : List Formal → List ℕ → OneFormal
 formal_in before text = elim (formal_fault before (formal_name text)) [
   | Some k ↦ FormalFault k
   | None ↦ with_default (formal_name text) (default_in (after_name text))
 ]
 
--- the formals of a list's text, behind other formals, up to the first fault, where so many more may follow; `,` stands between two
--- of them, and `)` behind the last (IEEE 1364-2001, `define`; the faults are this project's profile)
+-- the formals of a list's text, after other formals, up to the first fault, where so many more may follow; `,` stands between two
+-- of them, and `)` after the last (IEEE 1364-2001, `define`; the faults are this project's profile)
 unfoldable pub formals_in : ℕ → List Formal → List ℕ → FormalList
 formals_in zero before text = FormalListFault (unwrap_or (formal_fault before (formal_name text)) kind.TooManyFormals)
 formals_in (suc room) before text = elim (formal_in before text) [
@@ -150,13 +150,13 @@ formals_in (suc room) before text = elim (formal_in before text) [
       else FormalListFault kind.BadFormals)
 ]
 
--- the formals of a list, after its `(`, and the text behind it: none where all is white space up to its `)`, else at most 255
+-- the formals of a list, after its `(`, and the text after it: none where all is white space up to its `)`, else at most 255
 -- (this project's profile)
 unfoldable pub formals_of_list : List ℕ → FormalList
 formals_of_list text =
     if slice_index (after_space text) 0 == 41 then Listed (Some []) (drop 1 (after_space text)) else formals_in 255 [] text
 
--- what stands behind the name of a macro: a formal list where a `(` follows at once, then the text of the body
+-- what stands after the name of a macro: a formal list where a `(` follows at once, then the text of the body
 -- (IEEE 1364-2001, `define`)
 unfoldable pub formal_list : List ℕ → FormalList
 formal_list after =
@@ -180,7 +180,7 @@ unfoldable pub refused_word : DefineKind → List ℕ → List ℕ
 refused_word kind.ReservedName name = name
 refused_word _ name = []
 
--- a macro of a name with what stands behind the name (this project's profile)
+-- a macro of a name with what stands after the name (this project's profile)
 unfoldable pub with_list : List ℕ → List ℕ → Draft
 with_list name after = elim (formal_list after) [
   | FormalListFault k ↦ DraftFault k []

@@ -34,7 +34,7 @@ define_of most_bytes most_macros macros rest = stored_draft most_bytes most_macr
 unfoldable pub set_of : ℕ → ℕ → List Macro → List ℕ → List ℕ → Defined
 set_of most_bytes most_macros macros name text = stored_draft most_bytes most_macros macros (macro_set name text)
 
--- what a call tells of the definitions behind it: the macros, or why it was refused
+-- what a call tells of the definitions after it: the macros, or why it was refused
 unfoldable pub observed : Result (Unit {0}) DefineFault → List Macro → Defined
 observed (Ok done) macros = Accepted macros
 observed (Err fault) macros = DefinedFault fault.kind fault.word.bytes

@@ -12,7 +12,7 @@ use Rattle.rdlpp_define.specs.Plain.{is_default, is_plain_formal}
 use Rattle.rdlpp_define.specs.declared.fault.DefineKind.{DefineKind}
 use Rattle.rdlpp_define.specs.declared.fault.DefineKind.TheVariants as kind
 
--- what is wrong with a formal of a name, behind formals of such names (this project's profile)
+-- what is wrong with a formal of a name, after formals of such names (this project's profile)
 unfoldable pub fault_after : List (List ℕ) → List ℕ → Option DefineKind
 fault_after names name =
     if is_nothing name then Some kind.BadFormals
@@ -21,22 +21,22 @@ fault_after names name =
     else (if nat_le 255 (length names) then Some kind.TooManyFormals
     else None)))
 
--- the default text of a text from behind its `=` on
+-- the default text of a text from after its `=` on
 unfoldable pub default_left : List ℕ → List ℕ
 default_left text = trimmed_left (trims true) (cleared (Some 0) text)
 
--- the default text, and what stands behind it, from behind its `=` on
+-- the default text, and what stands after it, from after its `=` on
 unfoldable pub default_after : List ℕ → Option DefaultText
 default_after text = option_map trimmed_default (default_of_tokens 0 (tokens_from Plain 0 text) text)
 
--- a default text that counts so much was read from a text, and so much stands behind it
+-- a default text that counts so much was read from a text, and so much stands after it
 pub record IsDefault (default : Option DefaultText) (from following : List ℕ) (size : ℕ) : Type 0 where
   pub is : default ≡ Some (record { text = default_left from; following = following })
   pub size_is : default_size (default_left from) ≡ size
   pub len_is : trimmed_len (trims true) (cleared (start_level true) from) ≡ Ok (length (default_left from))
   pub plain : is_default (default_left from) ≡ true
 
--- a list of so many formals with so many bytes was read, and so much stands behind it
+-- a list of so many formals with so many bytes was read, and so much stands after it
 pub record IsRead (list : FormalList) (following : List ℕ) (count size : ℕ) (formals : List Formal) : Type 0 where
   pub is : list ≡ Listed (Some formals) following
   pub count_is : length formals ≡ count
@@ -47,7 +47,7 @@ pub record IsRead (list : FormalList) (following : List ℕ) (count size : ℕ) 
 unfoldable pub formal_told : List ℕ → Formal
 formal_told text = elim (formal_in [] text) [ Good f following ↦ f | FormalFault k ↦ record { name = []; text = [] } ]
 
--- what stands behind it
+-- what stands after it
 unfoldable pub after_told : List ℕ → List ℕ
 after_told text = elim (formal_in [] text) [ Good f following ↦ following | FormalFault k ↦ [] ]
 
@@ -60,7 +60,7 @@ unfoldable pub listed : FormalList → Option (List Formal)
 listed (Listed formals following) = formals
 listed (FormalListFault k) = None
 
--- what a list's text begins with: white space, a name or nothing, white space, and what stands behind them
+-- what a list's text begins with: white space, a name or nothing, white space, and what stands after them
 pub record IsPart (text name following : List ℕ) : Type 0 where
   pub name_is : name ≡ leading_name (after_space text)
   pub after_is : following ≡ after_space (drop (length name) (after_space text))

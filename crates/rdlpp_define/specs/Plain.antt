@@ -10,7 +10,7 @@ use Rattle.rdlpp_scan.specs.Tokens.{tokens_from}
 use Rattle.rdlpp_scan.specs.KeptText.{ends_default, level_after}
 use Rattle.rdlpp_define.specs.Macros.{Formal, Macro}
 
--- a byte of a formal's name in a table's bytes: neither the `,` nor the `=` that stands behind it
+-- a byte of a formal's name in a table's bytes: neither the `,` nor the `=` that stands after it
 unfoldable pub is_name_byte : ℕ → Bool
 is_name_byte b = not (b == 44 || b == 61)
 
@@ -23,7 +23,7 @@ fills level (t ∷ ts) text = not (level == 0 && ends_default t.kind (slice_inde
 unfoldable pub is_clean : List ℕ → Bool
 is_clean text = is_none (lex_fault_from Plain text) && list_all (λ t. not (is_line_comment t.kind)) (tokens_from Plain 0 text)
 
--- whether a default text is read back up to the `,` behind it
+-- whether a default text is read back up to the `,` after it
 unfoldable pub is_default : List ℕ → Bool
 is_default text = is_clean text && fills 0 (tokens_from Plain 0 text) text
 

@@ -38,7 +38,7 @@ use rdlpp_scan::{append_part, append_trimmed, split_first, trimmed_len};
 // The most formals of a macro (this project's profile).
 const MOST_FORMALS: usize = 255;
 
-// What is wrong with the name of a formal, behind formals of such names.
+// What is wrong with the name of a formal, after formals of such names.
 fn formal_fault(names: &[&[u8]], name: &[u8]) -> Option<DefineKind>
     ensures { result ≡ fault_after (map (λ n. n.now) names.now) name.now }
 {
@@ -57,7 +57,7 @@ fn formal_fault(names: &[&[u8]], name: &[u8]) -> Option<DefineKind>
     None
 }
 
-// A formal's name, and what stands behind it and the white space after it.
+// A formal's name, and what stands after it and the white space after it.
 #[derive(Clone, Copy, Drop)]
 struct Part<'a> {
     name: &'a [u8],
@@ -77,7 +77,7 @@ fn first_part(text: &[u8]) -> Part<'_>
     }
 }
 
-// A default text: where it is read from, what it counts, and what stands behind it; it counts nothing where there is none.
+// A default text: where it is read from, what it counts, and what stands after it; it counts nothing where there is none.
 #[derive(Clone, Copy, Drop)]
 struct DefaultText<'a> {
     from: &'a [u8],
@@ -85,7 +85,7 @@ struct DefaultText<'a> {
     following: &'a [u8],
 }
 
-// The default text behind the `=` of a formal; `None` where it has a fault or no end.
+// The default text after the `=` of a formal; `None` where it has a fault or no end.
 fn read_default(from: &[u8]) -> Option<DefaultText<'_>>
     requires { length from.now < 18446744073709551615 }
     ensures is { MatchOption result (default_after (as_read true from.now) ≡ None) (λ d. IsDefault (default_after (as_read true from.now)) (as_read true d.from.now) (as_read true d.following.now) d.size) }
@@ -109,7 +109,7 @@ fn read_default(from: &[u8]) -> Option<DefaultText<'_>>
     })
 }
 
-// The default text of a formal, by what stands behind its name; `None` where it has a fault or no end.
+// The default text of a formal, by what stands after its name; `None` where it has a fault or no end.
 fn default_in(text: &[u8]) -> Option<DefaultText<'_>>
     ensures is { MatchOption result (default_in (as_read true text.now) ≡ None) (λ d. IsDefault (default_in (as_read true text.now)) (as_read true d.from.now) (as_read true d.following.now) d.size) }
     ensures inside { IfSome result (λ d. d.size + length d.following.now ≤ length text.now) }
@@ -126,7 +126,7 @@ fn default_in(text: &[u8]) -> Option<DefaultText<'_>>
     })
 }
 
-// A formal list that was read: how many formals it has, how many bytes they are, and the text behind its `)`.
+// A formal list that was read: how many formals it has, how many bytes they are, and the text after its `)`.
 #[derive(Clone, Copy, Drop)]
 pub(crate) struct ReadList<'a> {
     pub(crate) count: usize,
@@ -168,7 +168,7 @@ fn read_some(text: &[u8]) -> Result<ReadList<'_>, DefineKind>
     }
 }
 
-// Reads a formal list, behind its `(`.
+// Reads a formal list, after its `(`.
 pub(crate) fn read_list(text: &[u8]) -> Result<ReadList<'_>, DefineKind>
     ensures read { MatchResult result (λ read. (formals : List Formal) × IsRead (formals_of_list (as_read true text.now)) (as_read true read.following.now) read.count read.size formals) (λ kind. formals_of_list (as_read true text.now) ≡ FormalListFault kind) }
 {
@@ -184,7 +184,7 @@ pub(crate) fn read_list(text: &[u8]) -> Result<ReadList<'_>, DefineKind>
     read_some(text)
 }
 
-// Appends the formal with which a list's text begins, and answers the text behind the `,` after it, where there is one.
+// Appends the formal with which a list's text begins, and answers the text after the `,` after it, where there is one.
 fn append_formal<'a>(to: &mut Vec<u8>, text: &'a [u8]) -> Option<&'a [u8]>
     requires good { is_told (as_read true text.now) ≡ true }
     requires room { vec_len to.old + formal_size (formal_told (as_read true text.now)) ≤ vec_capacity to.old }

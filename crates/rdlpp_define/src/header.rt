@@ -46,7 +46,7 @@ pub(crate) fn leading_name(bytes: &[u8]) -> &[u8]
     }
 }
 
-// The text of a formal list, behind its `(`, where one follows the name at once.
+// The text of a formal list, after its `(`, where one follows the name at once.
 pub(crate) fn list_after(after: &[u8]) -> Option<&[u8]>
     ensures { MatchOption result (formal_list (as_read true after.now) ≡ Listed None (as_read true after.now)) (λ list. formal_list (as_read true after.now) ≡ formals_of_list (as_read true list.now)) }
 {

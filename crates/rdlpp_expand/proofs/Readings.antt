@@ -123,7 +123,7 @@ joined_length xs ys k n p q = (let a = length-append xs ys in omega (arith, p, q
 joined_front : (xs ys zs : List ℕ) (k n : ℕ) → length xs ≡ k → length ys ≡ n → take (k + n) (xs ++ ys ++ zs) ≡ xs ++ ys
 joined_front xs ys zs k n p q = subst (λ (i : ℕ). take i (xs ++ ys ++ zs) ≡ xs ++ ys) (joined_length xs ys k n p q) (take-append_seam (xs ++ ys) zs)
 
--- and what stands behind it
+-- and what stands after it
 joined_back : (xs ys zs : List ℕ) (k n : ℕ) → length xs ≡ k → length ys ≡ n → drop (k + n) (xs ++ ys ++ zs) ≡ zs
 joined_back xs ys zs k n p q = subst (λ (i : ℕ). drop i (xs ++ ys ++ zs) ≡ zs) (joined_length xs ys k n p q) (drop-append_seam (xs ++ ys) zs)
 
@@ -144,13 +144,13 @@ pub given_more : {S R : Type 0} (g : Ghosts S R) (old mid new : ReadingView S R)
     → IsGiven g old new before out (len + n)
 given_more {S} {R} g old mid new before after out len n w becomes is over = grind (arith, length-drop (len + n) after, drop-drop n len after, drop-drop n len before, length-take-le, least_left, least_right, length-append, joined_length, joined_front, joined_back, append_assoc, take-append-drop)
 
--- where there is room behind it, nothing is left of the piece
+-- where there is room after it, nothing is left of the piece
 pub rest_used : {S R : Type 0} (g : Ghosts S R) (old mid new : ReadingView S R) (before after out : List ℕ) (len n : ℕ) → IsGiven g old mid before after len
     → new ≡ record mid { rest = drop n mid.rest } → n ≡ min (length mid.rest) (length after - len) → out ≡ take len after ++ take n mid.rest ++ drop (len + n) after
     → (len + n ≡ length out → ⊥) → new.rest ≡ []
 rest_used {S} {R} g old mid new before after out len n w becomes is over more = grind (arith, given_more g old mid new before after out len n w becomes is over, drop_of_length-le, least_all)
 
--- where there is room behind it, nothing is left of the piece, and the engine goes on
+-- where there is room after it, nothing is left of the piece, and the engine goes on
 pub given_turned : {S R : Type 0} (g : Ghosts S R) (old mid new : ReadingView S R) (before after : List ℕ) (len : ℕ) → IsGiven g old mid before after len
     → mid.rest ≡ [] → Turns g mid.engine new.engine new.rest None → IsGiven g old new before after len
 given_turned g old mid new before after len w none t = grind (arith, append-nil (take len after), append_assoc old.rest w.lent new.rest, lent_more g old.engine mid.engine new.engine w.lent new.rest None w.so t, work_after)
@@ -164,7 +164,7 @@ pub fills_full : {S R : Type 0} (g : Ghosts S R) (old new : ReadingView S R) (be
     → len ≡ length after → Fills g old new before after len None
 fills_full g old new before after len w is = grind arith
 
--- behind the end and behind a fault nothing is left of a piece
+-- after the end and after a fault nothing is left of a piece
 turned_rest : {S R : Type 0} (g : Ghosts S R) (old new : EngineView S R) (rest : List ℕ) (e : ReadEnd) → Turns g old new rest (Some e) → rest ≡ []
 turned_rest g old new rest Finished t = t.1
 turned_rest g old new rest Stopped t = t.none
@@ -194,7 +194,7 @@ pub fills_part : {S R : Type 0} (g : Ghosts S R) (old new : ReadingView S R) (be
     → FillsPart g old new before after len ending
 fills_part g old new before after len ending f = grind arith
 
--- a read that came back behind a piece without bytes
+-- a read that came back after a piece without bytes
 pub fills_paused : {S R : Type 0} (g : Ghosts S R) (old mid new : ReadingView S R) (before after : List ℕ) (len : ℕ) → IsGiven g old mid before after len
     → mid.rest ≡ [] → Turns g mid.engine new.engine new.rest None → length new.rest ≡ 0 → FillsPart g old new before after len None
 fills_paused g old mid new before after len w used t none =

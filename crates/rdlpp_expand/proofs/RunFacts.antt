@@ -40,7 +40,7 @@ appends_more (Some a) None new xs ys zs p q e = absurd p
 appends_more (Some a) (Some b) None xs ys zs p q e = absurd q
 appends_more (Some a) (Some b) (Some c) xs ys zs p q e = q ∙ ap (λ t. t ++ ys) p ∙ append_assoc a xs ys ∙ ap (λ t. a ++ t) (sym e)
 
--- a flush behind what was taken
+-- a flush after what was taken
 pub appends_kept : (old mid new : Option (List ℕ)) (xs : List ℕ) → Appends old mid xs → Keeps mid new → Appends old new xs
 appends_kept None mid new xs p q = tt
 appends_kept (Some a) None new xs p q = absurd p
@@ -52,7 +52,7 @@ pub counts_taken : (n : ℕ) (part : List ℕ) (old new : ℕ) → n ≢ 0 → C
 counts_taken n part old new h k =
     let P : Bool → Type 0 = λ b. Counts (b && not (length part == 0)) old new in subst P (ne_eqb n 0 h) k
 
--- a count behind one that stayed
+-- a count after one that stayed
 pub counts_after : (b : Bool) (old mid new : ℕ) → mid ≡ old → Counts b mid new → Counts b old new
 counts_after b old mid new e c = let P : ℕ → Type 0 = λ n. Counts b n new in subst P e c
 
@@ -322,7 +322,7 @@ pub gives_whole : (xs : List ℕ) (o : Outcome) → o ≡ gives xs → o ≡ rec
 unfolding gives
 gives_whole xs o e = e
 
--- bytes and a fault behind them
+-- bytes and a fault after them
 pub fails_whole : (xs : List ℕ) (f : Report) (o : Outcome) → o ≡ and_then (gives xs) (fails f) → o ≡ record { bytes = xs; fault = Some f }
 unfolding gives fails and_then
 fails_whole xs f o e = e ∙ ap (λ (ys : List ℕ). record { bytes = ys; fault = Some f }) (append-nil xs)
@@ -356,7 +356,7 @@ write_own : (name : List ℕ) → is_call_failed (write_fault name).kind ≡ fal
 unfolding write_fault is_call_failed is_read_failed is_memory_kind
 write_own name = refl
 
--- or with nothing behind it
+-- or with nothing after it
 or_false : (b : Bool) → (b || false) ≡ b
 or_false true = refl
 or_false false = refl
@@ -425,7 +425,7 @@ module _ {S R W : Type 0} (g : Ghosts S R) (h : SinkGhosts W) (old new : EngineV
   stopped_reads : SourcesCalled g (is_fresh is_read_failed old.kept new.kept) (is_fresh is_memory_kind old.kept new.kept) old.sources new.sources
   stopped_reads = w.reads
 
-  -- a fault of the engine, and what was asked of the sink behind it
+  -- a fault of the engine, and what was asked of the sink after it
   runs_ended : (asked unflushed : Bool) (fault : Option Report) → fault ≡ new.kept → Keeps (h.taken between) (h.taken after) → h.failed_writes after ≡ h.failed_writes between
       → Counts unflushed (h.failed_flushes between) (h.failed_flushes after) → Counts asked (h.flushes between) (h.flushes after)
       → (unflushed ≡ true → asked ≡ true) → asked ≡ not (is_kept is_write_failed old.kept) → (unflushed ≡ true → is_write_failed w.ends.fault.kind ≡ false)
@@ -539,7 +539,7 @@ pub keeps_same : (known : Option (List ℕ)) → Keeps known known
 keeps_same None = tt
 keeps_same (Some xs) = refl
 
--- the flush failed behind the whole output
+-- the flush failed after the whole output
 pub runs_unflushed : {S R W : Type 0} (g : Ghosts S R) (h : SinkGhosts W) (old mid new : EngineView S R) (before between after : W) (n : ℕ) (fault : Option Report)
     → Wrote g h old mid before between n (Some Finished) → Flushes h true between after
     → new ≡ record mid { kept = Some (write_fault mid.main) } → fault ≡ new.kept → Runs g h old new before after n fault

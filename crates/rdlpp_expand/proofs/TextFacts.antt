@@ -56,7 +56,7 @@ pub kept-some : (kept : Option Report) → is_some kept ≡ true → (f : Report
 kept-some None e = absurd (true≢false (sym e))
 kept-some (Some f) e = (f, refl)
 
--- where texts are open behind a piece, the next step is one over them unless the limit is passed
+-- where texts are open after a piece, the next step is one over them unless the limit is passed
 pub open-texts : {S R : Type 0} (e : EngineView S R) (b : Bool) → (IsTrue b ↔ (e.phase ≡ Open)) → (e.phase ≡ Open → IsInTexts e) → IsTrue b ↔ IsInTexts e
 open-texts e b both leaves = (λ t. leaves (both.0 t), λ t. both.1 t.0.open_)
 
@@ -64,7 +64,7 @@ open-texts e b both leaves = (λ t. leaves (both.0 t), λ t. both.1 t.0.open_)
 pub drained-texts : {S R : Type 0} (old new : EngineView S R) (x : ExpansionView) (marks : MarksView) → IsDrained old → new ≡ record old { expansion = x; marks = marks } → IsDrained new
 drained-texts old new x marks drained becomes = rw becomes (record { open_ = drained.open_; free = drained.free; pending = drained.pending })
 
--- behind bytes that were lent a text is open
+-- after bytes that were lent a text is open
 pub lent-texts : {S R : Type 0} (old new : EngineView S R) (x : ExpansionView) (marks : MarksView) (result : CursorStep) (place : TextPlace) → IsDrained old → result ≡ Lends place
     → StaysLent old.expansion result x → new ≡ record old { expansion = x; marks = marks } → IsInTexts new
 unfolding StaysLent
@@ -81,7 +81,7 @@ other-steps g old new (Lent place) other w = absurd (other place refl)
 other-steps g old new Silent other w = silent-steps g old new w
 other-steps g old new AtFault other w = cut_halt g old new halt.Fault w
 
--- what holds behind one step that lends a piece or keeps a fault holds behind the steps up to it
+-- what holds after one step that lends a piece or keeps a fault holds after the steps up to it
 pub other-leaves : {S R : Type 0} (step : TextStep) (e : EngineView S R) → (step ≡ Silent → ⊥) → StaysDrained step e → LeavesTexts step e
 other-leaves (Lent place) e other stays = λ _. stays
 other-leaves Silent e other stays = stays

@@ -61,7 +61,7 @@ ended_with (Some Finished) kept = None
 ended_with (Some Stopped) kept = kept
 
 -- a read into a buffer: what is given, and then what is left of the piece, is what was left of the piece and then what the engine lent; the
--- bytes of the buffer behind it stay, and its length; it ends where the buffer is full, or with the output, of which nothing is left then; and the
+-- bytes of the buffer after it stay, and its length; it ends where the buffer is full, or with the output, of which nothing is left then; and the
 -- counts of the sources' failures (this project's profile)
 pub record Fills {S R : Type 0} (g : Ghosts S R) (old new : ReadingView S R) (before after : List ℕ) (len : ℕ) (ending : Option ReadEnd) : Type 0 where
   pub lent : List ℕ
@@ -77,14 +77,14 @@ pub record Fills {S R : Type 0} (g : Ghosts S R) (old new : ReadingView S R) (be
   pub origins : new.engine.origins ≡ old.engine.origins
   pub main : new.engine.main ≡ old.engine.main
 
--- a read came back behind a piece without bytes: nothing is left of it, and the work left fell
+-- a read came back after a piece without bytes: nothing is left of it, and the work left fell
 pub record Pauses {S R : Type 0} (g : Ghosts S R) (old new : ReadingView S R) : Type 0 where
   pub none : new.rest ≡ []
   pub before : EngineView S R
   pub steps : Step g before new.engine (Ok (Some []))
   pub falls : work_left new.engine < work_left old.engine
 
--- a read that may come back before the buffer is full, behind a piece without bytes; else it is as one that fills it (this project's profile)
+-- a read that may come back before the buffer is full, after a piece without bytes; else it is as one that fills it (this project's profile)
 pub record FillsPart {S R : Type 0} (g : Ghosts S R) (old new : ReadingView S R) (before after : List ℕ) (len : ℕ) (ending : Option ReadEnd) : Type 0 where
   pub lent : List ℕ
   pub inside : len ≤ length before
@@ -104,7 +104,7 @@ abbrev pub IsNextPiece : {S R : Type 0} → Ghosts S R → ReadingView S R → E
 IsNextPiece g old new [] piece ending = Turns g old.engine new piece ending
 IsNextPiece g old new (b ∷ rest) piece ending = (new ≡ old.engine) × (piece ≡ b ∷ rest) × (ending ≡ None)
 
--- a read of one piece: as many of its bytes are given as there is room for, and the others are left; the bytes of the buffer behind them stay (this
+-- a read of one piece: as many of its bytes are given as there is room for, and the others are left; the bytes of the buffer after them stay (this
 -- project's profile)
 pub record GivesPiece {S R : Type 0} (g : Ghosts S R) (old new : ReadingView S R) (before after : List ℕ) (len : ℕ) (ending : Option ReadEnd) : Type 0 where
   pub piece : List ℕ

@@ -21,14 +21,14 @@ place_of Fault = Some (spot.Halt halt.Fault)
 abbrev pub IsInTexts : {S R : Type 0} → EngineView S R → Type 0
 IsInTexts e = IsDrained e × (0 < length e.expansion.opens)
 
--- what holds behind one step: texts stay open behind a piece, and behind nothing that is lent no fault is kept
+-- what holds after one step: texts stay open after a piece, and after nothing that is lent no fault is kept
 abbrev pub StaysDrained : {S R : Type 0} → TextStep → EngineView S R → Type 0
 StaysDrained (Lent place) e = IsInTexts e
 StaysDrained Silent e = IsDrained e
 StaysDrained Fault e = is_some e.kept ≡ true
 
--- what holds behind steps up to the next piece: behind that the next step is one over open texts too, where more may be lent; and
--- behind nothing that is lent no fault is kept
+-- what holds after steps up to the next piece: after that the next step is one over open texts too, where more may be lent; and
+-- after nothing that is lent no fault is kept
 abbrev pub LeavesTexts : {S R : Type 0} → TextStep → EngineView S R → Type 0
 LeavesTexts (Lent place) e = e.phase ≡ Open → IsInTexts e
 LeavesTexts Silent e = IsDrained e

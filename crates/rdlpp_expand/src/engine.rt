@@ -176,7 +176,7 @@ impl<S: Sources> Engine<S> {
     }
 
     // The step of `next`: goes on to the next piece, cut to what the limit on the output leaves, and answers where it stands.
-    // The steps on the way that come to no bytes are taken from what is left for them, and so is a call that is read behind the
+    // The steps on the way that come to no bytes are taken from what is left for them, and so is a call that is read after the
     // piece. Where that is too little for a step, the piece is that of no LF bytes that are pending.
     pub(crate) fn advance(&mut self, left: &mut usize) -> PieceLocation
         requires started { IsStarted self.old }

@@ -138,7 +138,7 @@ impl<S: Sources> Reading<S> {
 
     /// Defines a macro without a formal list in the engine, as `Engine::define` does, before another main text is started.
     ///
-    /// The main text must have ended, as behind `renew`.
+    /// The main text must have ended, as after `renew`.
     ///
     /// # Errors
     /// As of `Engine::define`. The engine is unchanged then.
@@ -158,7 +158,7 @@ impl<S: Sources> Reading<S> {
 
     /// Opens another main text, whose path is `path`, as `Engine::start` does.
     ///
-    /// The main text before it must have ended, as behind `renew`; the definitions stay.
+    /// The main text before it must have ended, as after `renew`; the definitions stay.
     ///
     /// # Errors
     /// As of `Engine::start`.
@@ -187,7 +187,7 @@ impl<S: Sources> Reading<S> {
     /// Writes the next bytes of the output to the front of a buffer, until it is full or the output
     /// ends, however many steps that takes.
     ///
-    /// The bytes behind them stay. After the end, and after a fault, every later read answers the
+    /// The bytes after them stay. After the end, and after a fault, every later read answers the
     /// same again with no bytes.
     pub fn fill(&mut self, out: &mut [u8]) -> ReadPart
         ensures fills { Fills S.Sources self.old self.new out.old out.new result.len result.ending }
@@ -217,7 +217,7 @@ impl<S: Sources> Reading<S> {
     /// as `Engine::next` takes for one piece, also where pieces with bytes come between them, with
     /// fewer bytes than the buffer has, and no end.
     ///
-    /// The bytes behind them stay. After the end, and after a fault, every later read answers the
+    /// The bytes after them stay. After the end, and after a fault, every later read answers the
     /// same again with no bytes.
     pub fn read(&mut self, out: &mut [u8]) -> ReadPart
         ensures fills { FillsPart S.Sources self.old self.new out.old out.new result.len result.ending }
@@ -246,7 +246,7 @@ impl<S: Sources> Reading<S> {
     /// room for: what is left of the piece that was lent last, or else the next piece, which may have
     /// none.
     ///
-    /// The bytes behind them stay. After the end, and after a fault, every later read answers the
+    /// The bytes after them stay. After the end, and after a fault, every later read answers the
     /// same again with no bytes.
     pub fn read_piece(&mut self, out: &mut [u8]) -> ReadPart
         ensures piece { GivesPiece S.Sources self.old self.new out.old out.new result.len result.ending }

@@ -122,7 +122,7 @@ enum Ending {
     Unwritten,
 }
 
-// What was written of a part: how many bytes, and whether a write failed behind them.
+// What was written of a part: how many bytes, and whether a write failed after them.
 #[derive(Clone, Copy)]
 struct PartWritten {
     len: usize,
@@ -249,7 +249,7 @@ fn show_part<S: Sources, V: Watcher>(
     }
 }
 
-// Shows a watcher the front of a piece, behind which a write failed: what the engine knows of the piece is of all of it, but for its
+// Shows a watcher the front of a piece, after which a write failed: what the engine knows of the piece is of all of it, but for its
 // place.
 #[cold]
 #[inline(never)]

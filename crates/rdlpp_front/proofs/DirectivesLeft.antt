@@ -195,7 +195,7 @@ unfolding has_own_token
 include_word = refl
 
 module _ (most l room : ℕ) (rest : List ℕ) where
-  -- the tokens of what is held and behind it, on the line of the directive
+  -- the tokens of what is held and after it, on the line of the directive
   abbrev tokens_of : List ℕ → List SourceToken
   tokens_of z = remaining_tokens most Plain l l z room rest
 
@@ -211,7 +211,7 @@ module _ (most l room : ℕ) (rest : List ℕ) where
       ∙ ap (λ (m : Kind). record { sort = Ordinary m; bytes = take t.len z; line = l } ∷ tokens_of (drop t.len z)) c.kind
       ∙ ap (λ (m : ℕ). string_token (take m z) l ∷ tokens_of (drop m z)) (sym c.whole)
 
-  -- behind the word: blanks, and then a string
+  -- after the word: blanks, and then a string
   string_given : (r : List ℕ) (bl n : ℕ) → EndsLine r rest → IsLead Blank r bl → ClosesString (drop bl r) n
       → IsGiven Include (tokens_of r) (take n (drop bl r)) (take bl r ++ take n (drop bl r)) (tokens_of (drop n (drop bl r)))
   string_given r bl n ends (Leads some is len) c =
@@ -239,7 +239,7 @@ string_in_front_of unread b holds mode start stop has =
     (string_given b.line_bytes b.line b.bytes_left (rest_of unread b) r has.argument.from k (EndsLine-drop (length (directive_word Include)) held (rest_of unread b) (ends_line unread b holds.ends)) g.space
     (closed_string (drop has.argument.from r) k g.found (omega (arith, g.some))))
 
--- An `include` in front behind which no string stands that closes on its line.
+-- An `include` in front after which no string stands that closes on its line.
 
 -- a text with LF bytes has one
 any_line_end : (bytes : List ℕ) → 0 < line_ends bytes → list_any is_line_end bytes ≡ true
@@ -305,7 +305,7 @@ unfolding remaining_tokens source_tokens source_end open_end broken
 open_at_end most o l room =
     ap (λ (g : Front). source_tokens (record { most = most; break = g.break }) InStr o l 0 g.text) (front-none most room)
 
--- the rest of a string behind a part of it that has an LF, or behind which the text ends
+-- the rest of a string after a part of it that has an LF, or after which the text ends
 resumed_string : (part : List ℕ) (l : ℕ) (ts : List SourceToken) (o : ℕ) → (0 < line_ends part) ⊎ (ts ≡ only_broken StringOpen o) → Resumes ts
     → string_in_front (onto_tokens part l ts) ≡ no_argument
 unfolding onto_tokens with_part line_with string_in_front
@@ -320,7 +320,7 @@ resumed_string part l ts o h (Breaks k bytes line is) =
     ap (λ (us : List SourceToken). string_in_front (onto_tokens part l us)) is
 
 module _ (most l room : ℕ) (rest : List ℕ) where
-  -- the tokens of what is held and behind it, on the line of the directive
+  -- the tokens of what is held and after it, on the line of the directive
   abbrev tokens_after : List ℕ → List SourceToken
   tokens_after z = remaining_tokens most Plain l l z room rest
 
@@ -381,7 +381,7 @@ module _ (most l room : ℕ) (rest : List ℕ) where
       let f : FirstToken (token_of Plain (b ∷ w)).kind (tokens_after (b ∷ w)) = remaining-first most l l (b ∷ w) room rest (omega arith) ends in
       ap (past_blanks string_in_front) f.is ∙ no_blank_by f.first.sort f.first.bytes f.first.line f.more (token_of Plain (b ∷ w)).kind f.kind (other (omega arith)) ∙ sym (ap string_in_front f.is)
 
-  -- behind the word: no string
+  -- after the word: no string
   string_missing : (r : List ℕ) (bl : ℕ) → EndsLine r rest → (r ≡ [] → rest ≡ []) → (drop bl r ≡ [] → rest ≡ []) → IsLead Blank r bl → IsClosedString (drop bl r) 0
       → argument_of Include (tokens_after r) ≡ no_argument
   unfolding argument_of past_blanks after_blanks no_argument

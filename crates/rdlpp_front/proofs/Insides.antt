@@ -36,7 +36,7 @@ use Rattle.rdlpp_meaning.proofs.LiveText.{resumed_bare, resumed_broken, resumed_
 use Rattle.rdlpp_meaning.proofs.Outcomes.{after_bytes-nil, fails-goes_on}
 use Rattle.rdlpp_meaning.proofs.Skipping.{all_copied_skipped, resumed_skipped, resumed_skipped_broken, resumed_skipped_broken_parts, resumed_skipped_parts}
 use Rattle.rdlpp_read.specs.Buffer.{BufferView, ahead_of, entered_mode, held_of, rest_of, tokens_left}
-use Rattle.rdlpp_front.specs.Arguments.{IsLead, Lacks, LeadingPart, Leads, NothingBehindBlanks}
+use Rattle.rdlpp_front.specs.Arguments.{IsLead, Lacks, LeadingPart, Leads, NothingAfterBlanks}
 use Rattle.rdlpp_front.specs.SourceItems.{AtOrdinary, AtToken, HasArgument, IsAfter, IsArgumentOf, IsDirective, IsText, IsUsage, StandsAfter, argument_name, is_text_kind, usage_name}
 use Rattle.rdlpp_front.specs.declared.arguments.Argument.{Argument}
 
@@ -86,13 +86,13 @@ pub token_at_backquote : (bs : List ℕ) → slice_index bs 0 ≡ 96 → token_o
 unfolding token_of plain_token begins_perl is_line_end is_blank begins_line_comment begins_block_comment is_letter is_digit takes_word
 token_at_backquote bs e = rw e refl
 
--- a letter behind a backquote begins a name
+-- a letter after a backquote begins a name
 pub back_at_letter : (bs : List ℕ) → slice_index bs 0 ≡ 96 → is_letter (slice_index bs 1) ≡ true → (token_of Plain bs).kind ≡ Back
 unfolding whole
 back_at_letter bs e letter =
     ap (λ (t : Token). t.kind) (token_at_backquote bs e ∙ ap (λ t. cond t (whole Back (suc (prefix_len is_word (drop 1 bs)))) (whole BareBackquote 1)) letter)
 
--- without a letter behind it a backquote is alone
+-- without a letter after it a backquote is alone
 pub bare_at_other : (bs : List ℕ) → slice_index bs 0 ≡ 96 → is_letter (slice_index bs 1) ≡ false → (token_of Plain bs).kind ≡ BareBackquote
 unfolding whole
 bare_at_other bs e other =
@@ -137,7 +137,7 @@ back_front bs h = grind (arith, block_token-kind, string_token-kind, eqb-true, a
 
 -- What the word of a directive at the front of held bytes tells: which directive it is.
 
--- the name of a directive, behind a backquote, is its word
+-- the name of a directive, after a backquote, is its word
 pub named_word : (name : List ℕ) (d : Directive) → directive_named name ≡ Some d → 96 ∷ name ≡ directive_word d
 named_word name d e = ap (λ (x : List ℕ). 96 ∷ x) (named_is name d e)
 
@@ -146,17 +146,17 @@ pub word_len : (d : Directive) (held : List ℕ) → 0 < length held → IsDirec
 word_len d held some is =
     sym (length-take-le (token_of Plain held).len held (token_of-part Plain held some).inside) ∙ ap length is.word
 
--- what stands behind the word of a directive is what it is given
+-- what stands after the word of a directive is what it is given
 pub given_here : (is : LeadingPart) (own d : Directive) (held : List ℕ) (len : ℕ) (a : Option Argument) → own ≡ d → 0 < length held → IsDirective own held
     → len ≡ (token_of Plain held).len → IsAfter is len held a → IsArgumentOf is d held a
 given_here is own d held len None same some word whole h =
     let at : IsDirective d held = subst (λ (x : Directive). IsDirective x held) same word in
-    record { word = at; none = subst (λ (n : ℕ). NothingBehindBlanks is (drop n held)) (whole ∙ word_len d held some at) h }
+    record { word = at; none = subst (λ (n : ℕ). NothingAfterBlanks is (drop n held)) (whole ∙ word_len d held some at) h }
 given_here is own d held len (Some a) same some word whole h =
     let at : IsDirective d held = subst (λ (x : Directive). IsDirective x held) same word in
     record { word = at; argument = subst (λ (n : ℕ). StandsAfter is n held a.start a.stop) (whole ∙ word_len d held some at) h }
 
--- what is found behind blanks behind a word
+-- what is found after blanks after a word
 pub stands_there : (is : LeadingPart) (held : List ℕ) (word_len space len : ℕ) → word_len ≤ length held
     → IsLead Blank (take (length held - word_len) (drop word_len held)) space → (len ≡ 0 → ⊥)
     → is (take (length held - (word_len + space)) (drop (word_len + space) held)) len → word_len + space + len ≤ length held
@@ -279,13 +279,13 @@ comment_without_ends Plain bs = grind (arith, cond_both, part_without_ends, bloc
 comment_without_ends InStr bs = grind (arith, cond_both, string_token-kind)
 comment_without_ends InBlock bs = λ e. absurd (cc (block_token-kind 0 bs))
 
--- An open source where its next bytes are used: what is held, what stands behind it, and the tokens that remain.
+-- An open source where its next bytes are used: what is held, what stands after it, and the tokens that remain.
 
 -- a buffer of which so many more held bytes are used, with so many line ends
 abbrev pub used_buffer : {R : Type 0} → BufferView R → ℕ → ℕ → BufferView R
 used_buffer b len lines = record b { at = b.at + len; line = b.line + lines }
 
--- what is held behind bytes that are used
+-- what is held after bytes that are used
 pub held_used : {R : Type 0} (b : BufferView R) (n l : ℕ) → held_of (used_buffer b n l) ≡ drop n (held_of b)
 unfolding held_of
 held_used b n l = sym (drop-drop n b.at (take b.accepted b.window))
@@ -301,13 +301,13 @@ pub tokens_plain : {R : Type 0} (unread : R → List ℕ) (b : BufferView R) →
 unfolding tokens_left
 tokens_plain unread b mode = grind (arith, remaining-opened)
 
--- the tokens behind bytes that are used
+-- the tokens after bytes that are used
 pub tokens_used : {R : Type 0} (unread : R → List ℕ) (b : BufferView R) (n l o : ℕ) → b.mode ≡ Plain
     → remaining_tokens b.line_bytes Plain o (b.line + l) (drop n (held_of b)) b.bytes_left (rest_of unread b) ≡ tokens_left unread (used_buffer b n l)
 unfolding rest_of ahead_of
 tokens_used unread b n l o mode = grind (arith, remaining-opened, held_used, tokens_plain)
 
--- the tokens behind bytes that are used, in the mode that stands there
+-- the tokens after bytes that are used, in the mode that stands there
 pub tokens_entered : {R : Type 0} (unread : R → List ℕ) (b : BufferView R) (n l : ℕ) (next : Mode)
     → remaining_tokens b.line_bytes next (opening b.mode b.open_token_line b.line) (b.line + l) (drop n (held_of b)) b.bytes_left (rest_of unread b)
     ≡ tokens_left unread (used_buffer (entered_mode b next) n l)
@@ -316,7 +316,7 @@ tokens_entered unread b n l next =
     ap (λ (held : List ℕ). remaining_tokens b.line_bytes next (opening b.mode b.open_token_line b.line) (b.line + l) held b.bytes_left (rest_of unread b))
     (sym (held_used (entered_mode b next) n l ∙ ap (drop n) (held_entered b next)))
 
--- What remains of an include stack of open sources in live text, with the state behind it, for each kind of token in front of the innermost.
+-- What remains of an include stack of open sources in live text, with the state after it, for each kind of token in front of the innermost.
 
 -- bytes and then a fault of the innermost source end the include stack
 pub all_resumed_after_fails : (rules : Rules) (ws : List Waiting) (place : Place) (first : Bool) (ts : List SourceToken) (s t : State) (x : List ℕ) (f : Report)

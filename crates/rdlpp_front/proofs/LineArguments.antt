@@ -83,7 +83,7 @@ unfolding quote_place
 quote_none true = refl
 quote_none false = refl
 
--- behind the last byte
+-- after the last byte
 pub quote_over : (taken : Bool) (place : ℕ) (bytes : List ℕ) → length bytes ≤ place → moved place (quote_place taken (drop place bytes)) ≡ None
 quote_over taken place bytes over = ap (λ (x : List ℕ). moved place (quote_place taken x)) (drop_of_length-le bytes over) ∙ ap (moved place) (quote_none taken)
 
@@ -156,7 +156,7 @@ fails_fourth _ b c d e = refl
 pub all_four : (a b c d : Bool) → a ≡ true → b ≡ true → c ≡ true → d ≡ true → (a && b && c && d) ≡ true
 all_four a b c d e f g h = rw (e, f, g, h) refl
 
--- the number of a line that gives none, and what stands behind the number
+-- the number of a line that gives none, and what stands after the number
 pub line_unnumbered : (rest : List ℕ) → (leb 1 (digits_value (take (prefix_len is_digit (past_blank_bytes rest)) (past_blank_bytes rest)))
     && leb (digits_value (take (prefix_len is_digit (past_blank_bytes rest)) (past_blank_bytes rest))) 2147483647) ≡ false
     → renumbered rest ≡ None

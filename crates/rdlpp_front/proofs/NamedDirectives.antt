@@ -36,7 +36,7 @@ use Rattle.rdlpp_front.specs.declared.arguments.Argument.{Argument as Given}
 use Rattle.rdlpp_front.proofs.Insides.{name_inside, tokens_used, used_buffer, word_len}
 use Rattle.rdlpp_front.proofs.TextLeft.{back_tokens, file_moves}
 
--- A directive that wants a name in front of what remains: its token, the name that it is given, and what remains behind that.
+-- A directive that wants a name in front of what remains: its token, the name that it is given, and what remains after that.
 
 -- the word of a directive as a token
 abbrev pub word_token : Directive → ℕ → SourceToken
@@ -107,7 +107,7 @@ no_name k us f other = ap name_in_front f.is ∙ no_name_by f.first.sort f.first
 no_blank : (k : Kind) (us : List SourceToken) → FirstToken k us → (k ≡ Blank → ⊥) → past_blanks name_in_front us ≡ name_in_front us
 no_blank k us f other = ap (past_blanks name_in_front) f.is ∙ no_blank_by f.first.sort f.first.bytes f.first.line f.more k f.kind other ∙ sym (ap name_in_front f.is)
 
--- what a directive is given, and what is behind that
+-- what a directive is given, and what is after that
 pub record IsGiven (d : Directive) (ts : List SourceToken) (name text : List ℕ) (following : List SourceToken) : Type 0 where
   pub given : (argument_of d ts).given ≡ Some name
   pub taken : (argument_of d ts).text ≡ text
@@ -118,7 +118,7 @@ pub given_of : (d : Directive) (ts : List SourceToken) (name text : List ℕ) (f
 given_of d ts name text following used e h = grind arith
 
 module _ (most l room : ℕ) (rest : List ℕ) where
-  -- the tokens of what is held and behind it, on the line of the directive
+  -- the tokens of what is held and after it, on the line of the directive
   abbrev tokens_of : List ℕ → List SourceToken
   tokens_of z = remaining_tokens most Plain l l z room rest
 
@@ -156,7 +156,7 @@ module _ (most l room : ℕ) (rest : List ℕ) where
   lacks_blank (b ∷ w) ends none other =
       no_blank (token_of Plain (b ∷ w)).kind (tokens_of (b ∷ w)) (remaining-first most l l (b ∷ w) room rest (omega arith) ends) (other (omega arith))
 
-  -- behind the word: blanks, and then a name
+  -- after the word: blanks, and then a name
   after_given : (d : Directive) → wants_name d ≡ true → (r : List ℕ) (bl n : ℕ) → EndsLine r rest → (r ≡ [] → rest ≡ []) → IsLead Blank r bl
       → 0 < length (drop bl r) → (token_of Plain (drop bl r)).kind ≡ Name → n ≡ (token_of Plain (drop bl r)).len
       → IsGiven d (tokens_of r) (take n (drop bl r)) (take bl r ++ take n (drop bl r)) (tokens_of (drop n (drop bl r)))
@@ -201,14 +201,14 @@ unfolding line_ends
 lead_line_ends bytes n (Leads some is len) = ap (λ (m : ℕ). line_ends (take m bytes)) len ∙ blanks-line_ends bytes is
 lead_line_ends bytes n (Lacks other zero_is) = ap (λ (m : ℕ). line_ends (take m bytes)) zero_is
 
--- where nothing is held behind bytes without an LF, the text has ended
+-- where nothing is held after bytes without an LF, the text has ended
 ended_after : (held rest : List ℕ) (m : ℕ) → 0 < length held → EndsLine held rest → line_ends (take m held) ≡ 0 → drop m held ≡ [] → rest ≡ []
 ended_after held rest m some ends none gone =
     let all : take m held ≡ held = sym (append-nil (take m held)) ∙ ap (λ (z : List ℕ). take m held ++ z) (sym gone) ∙ take-append-drop m held in
     let free : line_ends held ≡ 0 = ap line_ends (sym all) ∙ none in
     ⊎_elim (λ whole. absurd (omega (arith, free, whole-line_ends held some whole))) (λ h. h) ends
 
--- what is held of a directive, behind its word and behind blanks
+-- what is held of a directive, after its word and after blanks
 module _ (d : Directive) (held rest : List ℕ) (some : 0 < length held) (ends : EndsLine held rest) (is : IsDirective d held) where
   -- the first bytes are the word
   pub word_at : take (length (directive_word d)) held ≡ directive_word d
@@ -218,11 +218,11 @@ module _ (d : Directive) (held rest : List ℕ) (some : 0 < length held) (ends :
   pub word_at_line_ends : line_ends (take (length (directive_word d)) held) ≡ 0
   word_at_line_ends = ap line_ends word_at ∙ word_line_ends d
 
-  -- where nothing is held behind them
+  -- where nothing is held after them
   pub gone_word : drop (length (directive_word d)) held ≡ [] → rest ≡ []
   gone_word gone = ended_after held rest (length (directive_word d)) some ends word_at_line_ends gone
 
-  -- nor behind blanks there
+  -- nor after blanks there
   pub gone_blanks : (bl : ℕ) → IsLead Blank (drop (length (directive_word d)) held) bl → drop bl (drop (length (directive_word d)) held) ≡ [] → rest ≡ []
   gone_blanks bl space gone =
       let n = length (directive_word d) in
@@ -277,7 +277,7 @@ begins_within d held _ _ (Named start stop wants has) some = let within = name_i
 begins_within d held _ _ (Nameless wants lacks) some = word_within d held lacks.word some
 begins_within d held _ _ (Bare bare is) some = word_within d held is some
 
--- a directive with what it is given in front: the tokens behind its word, what it takes of them, and what remains behind that
+-- a directive with what it is given in front: the tokens after its word, what it takes of them, and what remains after that
 pub record GivenInFront {R : Type 0} (d : Directive) (unread : R → List ℕ) (b : BufferView R) (name : Option (List ℕ)) (len : ℕ) : Type 0 where
   pub tokens : List SourceToken
   pub all : tokens_left unread b ≡ word_token d b.line ∷ tokens
@@ -286,7 +286,7 @@ pub record GivenInFront {R : Type 0} (d : Directive) (unread : R → List ℕ) (
   pub following : after_directive d tokens ≡ tokens_left unread (used_buffer b len 0)
 
 module _ {R : Type 0} (d : Directive) (unread : R → List ℕ) (b : BufferView R) (holds : HoldsFront b) (mode : b.mode ≡ Plain) where
-  -- the tokens behind a place, on the line of the directive
+  -- the tokens after a place, on the line of the directive
   abbrev tokens_at : ℕ → List SourceToken
   tokens_at n = remaining_tokens b.line_bytes Plain b.line b.line (drop n (held_of b)) b.bytes_left (rest_of unread b)
 
@@ -301,7 +301,7 @@ module _ {R : Type 0} (d : Directive) (unread : R → List ℕ) (b : BufferView 
   at_word : has_own_token d ≡ false → IsDirective d (held_of b) → tokens_left unread b ≡ word_token d b.line ∷ tokens_at (length (directive_word d))
   at_word word is = word_tokens d unread b word holds mode is ∙ ap (λ (ts : List SourceToken). word_token d b.line ∷ ts) (sym (at_used (length (directive_word d))))
 
-  -- a directive with what it takes, from a place behind its word up to another
+  -- a directive with what it takes, from a place after its word up to another
   pub given_in_front_of : has_own_token d ≡ false → IsDirective d (held_of b) → (from to start stop : ℕ) → from < to → start ≡ length (directive_word d) + from → stop ≡ length (directive_word d) + to
       → (let z = drop from (drop (length (directive_word d)) (held_of b)) in
       IsGiven d (tokens_at (length (directive_word d))) (take (to - from) z) (take from (drop (length (directive_word d)) (held_of b)) ++ take (to - from) z)
@@ -390,7 +390,7 @@ begins_token d held _ _ (Bare bare is) = bare_word d bare
 abbrev pub held_command : {R : Type 0} → Directive → Option (List ℕ) → ℕ → File R → Command
 held_command d given len f = record { word = d; given = given; text = take len (held_of f.buffer); line = f.buffer.line; first = f.blanks }
 
--- what remains at it is what it comes to, and then what remains behind it
+-- what remains at it is what it comes to, and then what remains after it
 pub held_moves : {R : Type 0} (rules : Rules) (unread : R → List ℕ) (ws : List Waiting) (f : File R) (s : State) (d : Directive) (given : Option (List ℕ)) (len : ℕ)
     → has_own_token d ≡ false → GivenInFront d unread f.buffer given len → (place : Place)
     → source_left rules unread ws place f s ≡ file_moves rules unread ws (move_of rules (held_command d given len f) place s) f.buffer.line s (consumed_file len 0 f)

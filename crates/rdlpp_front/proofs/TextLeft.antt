@@ -94,7 +94,7 @@ part_move rules ws place writes s w b held l ts (Copies k bytes line more open_ 
 part_move rules ws place writes s w b held l ts (Breaks k bytes line is) = grind arith
 
 module _ (rules : Rules) (ws : List Waiting) (place : Place) (writes : List ℕ → List ℕ) (s : State) (written : Writes rules ws place writes s) (b : Bool) (most : ℕ) (m : Mode) (o l : ℕ) (held : List ℕ) (room : ℕ) (rest : List ℕ) (h : TextHeld m held rest) where
-  -- what remains in a mode, from a line on where a token opened, behind so many bytes
+  -- what remains in a mode, from a line on where a token opened, after so many bytes
   abbrev left_in : Mode → ℕ → ℕ → Bool → Passage
   left_in next opened n first = all_resumed rules ws place first (remaining_tokens most next opened (l + line_ends (take n held)) (drop n held) room rest) s
 
@@ -102,7 +102,7 @@ module _ (rules : Rules) (ws : List Waiting) (place : Place) (writes : List ℕ 
   abbrev left_here : Passage
   left_here = all_resumed rules ws place b (remaining_tokens most m o l held room rest) s
 
-  -- the token, or the part of it, is given, and then comes what remains behind it
+  -- the token, or the part of it, is given, and then comes what remains after it
   abbrev Moves : Token → Type 0
   Moves t = left_here ≡ after_bytes (writes (take t.len held)) (left_in t.next_mode (opening m o l) t.len (only_blanks b (take t.len held)))
 
@@ -204,7 +204,7 @@ module _ {R : Type 0} (rules : Rules) (unread : R → List ℕ) (ws : List Waiti
       left_of first b ≡ after_bytes (writes w) (left_of (only_blanks first w) (used_buffer (entered_mode b t.next_mode) t.len (line_ends w)))
   token_left first b text = grind (arith, token_here, tokens_entered)
 
-  -- what text that is copied comes to, by its length and the mode behind it
+  -- what text that is copied comes to, by its length and the mode after it
   abbrev Copied : Bool → BufferView R → ℕ → Mode → Type 0
   Copied first b n next = let w = take n (held_of b) in
       left_of first b ≡ after_bytes (writes w) (left_of (only_blanks first w) (used_buffer (entered_mode b next) n (line_ends w)))
@@ -274,14 +274,14 @@ usage_buffer : {R : Type 0} (unread : R → List ℕ) (b : BufferView R) (len : 
 usage_buffer unread b len holds mode usage = grind (arith, usage_text, not_define, not_line, back_tokens)
 
 module _ {R : Type 0} (unread : R → List ℕ) (f : File R) (len : ℕ) where
-  -- the tokens at a usage, and behind it
+  -- the tokens at a usage, and after it
   pub usage_tokens : HoldsFront f.buffer → f.buffer.mode ≡ Plain → IsUsage (held_of f.buffer) len
       → tokens_left unread f.buffer
       ≡ usage_token (usage_name (held_of f.buffer) len) f.buffer.line ∷ tokens_left unread (consumed_file len 0 f).buffer
   usage_tokens holds mode usage = usage_buffer unread f.buffer len holds mode usage
 
 module _ {R : Type 0} (rules : Rules) (unread : R → List ℕ) (ws : List Waiting) (os : List Progress) (f : File R) (s : State) where
-  -- what remains at a usage is what the run gives for its token in front of the tokens behind it
+  -- what remains at a usage is what the run gives for its token in front of the tokens after it
   pub usage_left : (len : ℕ) → HoldsFront f.buffer → f.buffer.mode ≡ Plain → IsUsage (held_of f.buffer) len
       → source_left rules unread ws (Live os) f s
       ≡ all_resumed rules ws (Live os) f.blanks (usage_token (usage_name (held_of f.buffer) len) f.buffer.line ∷ tokens_left unread (consumed_file len 0 f).buffer) s
@@ -298,7 +298,7 @@ module _ {R : Type 0} (rules : Rules) (unread : R → List ℕ) (ws : List Waiti
       usage_left len holds mode usage
       ∙ all_resumed_undefined rules ws os f.blanks (usage_name (held_of f.buffer) len) f.buffer.line (tokens_left unread (consumed_file len 0 f).buffer) s usage.free none
 
--- What a `define` in front does to what remains, once its logical line is held or broken; and what stands behind its word.
+-- What a `define` in front does to what remains, once its logical line is held or broken; and what stands after its word.
 
 -- a `define` directive in front of a source is one in its held bytes
 pub holds_define : {R : Type 0} (unread : R → List ℕ) (f : File R)
@@ -310,7 +310,7 @@ pub consumed_used : {R : Type 0} (b : BufferView R) (len lines : ℕ) → lines 
 unfolding consumed
 consumed_used b len lines e = ap (λ (n : ℕ). used_buffer b len n) (sym e)
 
--- what remains where a construct in front of the innermost source comes to this, by that source behind it
+-- what remains where a construct in front of the innermost source comes to this, by that source after it
 abbrev pub file_moves : {R : Type 0} → Rules → (R → List ℕ) → List Waiting → Move → ℕ → State → File R → Passage
 file_moves rules unread ws m line s g = nest_moves rules ws m line s g.blanks (tokens_left unread g.buffer)
 
@@ -369,7 +369,7 @@ logical_len-following x y (b ∷ c ∷ cs) p q = rw (p, q) refl
 unfoldable seven_more : Option ℕ → Option ℕ
 seven_more o = option_map suc (option_map suc (option_map suc (option_map suc (option_map suc (option_map suc (option_map suc o))))))
 
--- the logical line of a `define` is the word and the logical line of what stands behind it
+-- the logical line of a `define` is the word and the logical line of what stands after it
 define_logical : (rest : List ℕ) → logical_len 0 0 (codes "`define" ++ rest) ≡ seven_more (logical_len 0 0 rest)
 unfolding logical_len is_line_end is_continued seven_more
 define_logical rest = ap seven_more (logical_len-following 110 101 rest refl refl)
@@ -380,7 +380,7 @@ define_begins held some is =
     let seven = word_len Define held some is in
     sym (take-append-drop 7 held) ∙ ap (λ (xs : List ℕ). xs ++ drop 7 held) (ap (λ (i : ℕ). take i held) (sym seven) ∙ is.word)
 
--- what stands behind the word of a `define`, of the first bytes of its text
+-- what stands after the word of a `define`, of the first bytes of its text
 define_rest : (rest : List ℕ) (n : ℕ) → drop 7 (take (7 + n) (codes "`define" ++ rest)) ≡ take n rest
 define_rest rest n = drop-take 7 n (codes "`define" ++ rest)
 
@@ -388,12 +388,12 @@ define_rest rest n = drop-take 7 n (codes "`define" ++ rest)
 abbrev IsLine : List ℕ → Type 0
 IsLine bytes = IfSome (logical_len 0 0 bytes) (λ k. k ≡ length bytes)
 
--- a logical line of a `define` has its word and what stands behind it, which is a whole logical line
+-- a logical line of a `define` has its word and what stands after it, which is a whole logical line
 record WholeRest (bytes : List ℕ) (len : ℕ) : Type 0 where
   pub wide : 7 ≤ len
   pub whole : IsLine (drop 7 (take len bytes))
 
--- by where it ends behind the word
+-- by where it ends after the word
 rest_by : (rest : List ℕ) (len n : ℕ) → 7 + n ≡ len → IsLine (take n rest) → WholeRest (codes "`define" ++ rest) len
 rest_by rest len n same line = grind (arith, define_rest)
 
@@ -409,7 +409,7 @@ unfolding seven_more
 rest_open rest len (Some n) e h size = cc
 rest_open rest len None e h size = grind (arith, rest_by, length-append, take-length)
 
--- the logical line of a `define`, which may go on behind what was held of it
+-- the logical line of a `define`, which may go on after what was held of it
 whole_rest : {R : Type 0} (has_known_texts : Type 0) (unread : R → List ℕ) (held more : List ℕ) (new : BufferView R) (len : ℕ) → 0 < length held → IsDirective Define held
     → held_of new ≡ held ++ more → IsLogical has_known_texts unread new len → WholeRest (held_of new) len
 whole_rest has_known_texts unread held more new len some is e logical =
@@ -422,7 +422,7 @@ whole_rest has_known_texts unread held more new len some is e logical =
       | inr open_ ↦ rest_open rest len (logical_len 0 0 rest) refl (sym line ∙ open_.0) (open_.1 ∙ ap length text)
     ])
 
--- what stands behind the word of a `define` is a logical line
+-- what stands after the word of a `define` is a logical line
 pub define_rest_whole : {R : Type 0} (has_known_texts : Type 0) (unread : R → List ℕ) (held more : List ℕ) (new : BufferView R) (len : ℕ) → 0 < length held → IsDirective Define held
     → held_of new ≡ held ++ more → IsLogical has_known_texts unread new len
     → IfSome (logical_len 0 0 (drop 7 (take len (held_of new)))) (λ k. k ≡ length (drop 7 (take len (held_of new))))
@@ -468,10 +468,10 @@ line_moves rules unread ws place f s holds mode is =
     ap (λ (ts : List SourceToken). all_resumed rules ws place f.blanks ts s) (line_buffer unread f.buffer holds mode is)
     ∙ whole_moves rules ws place Line f.blanks Renumbering w f.buffer.line (tokens_left unread (used_buffer f.buffer (line_len (held_of f.buffer)) (line_ends w))) s refl refl
 
--- What a `line` is given, by what stands behind its word.
+-- What a `line` is given, by what stands after its word.
 
 module _ (held : List ℕ) (some : 0 < length held) (is : IsDirective Line held) where
-  -- a `line` is its word and what stands behind it
+  -- a `line` is its word and what stands after it
   word_apart : held ≡ directive_word Line ++ drop 5 held
   word_apart =
       let len : (token_of Plain held).len ≡ 5 = word_len Line held some is in
@@ -481,7 +481,7 @@ module _ (held : List ℕ) (some : 0 < length held) (is : IsDirective Line held)
   pub word_held : length held ≡ 5 + length (drop 5 held)
   word_held = ap length word_apart ∙ length-append (directive_word Line) (drop 5 held)
 
-  -- its physical line has its word and what stands behind that on the line
+  -- its physical line has its word and what stands after that on the line
   pub line_right_after : line_len held ≡ 5 + line_len (drop 5 held)
   unfolding ended_line_len is_line_end
   line_right_after = ap line_len word_apart ∙ line_len-open (directive_word Line) (drop 5 held) refl

@@ -1,4 +1,4 @@
--- What a directive is given behind its word, by the tokens that stand there.
+-- What a directive is given after its word, by the tokens that stand there.
 -- A definition that names no source is this project's own.
 use Rattle.std.specs.Prelude.{◌≡◌, ℕ, ◌-◌, ◌≤◌, ◌<◌, false, ◌&&◌, nat_le, List, length, take, drop, Option, None, Some}
 use Rattle.arrayvec.specs.declared.array_string.ArrayString.{ArrayString}
@@ -33,15 +33,15 @@ pub data IsClosedString (bytes : List ℕ) (len : ℕ) : Type 0 where
 abbrev pub LeadingPart : Type 1
 LeadingPart = List ℕ → ℕ → Type 0
 
--- behind blanks stands such a thing, from a place up to another (IEEE 1364-2001, compiler directives)
-pub record BehindBlanks (is : LeadingPart) (bytes : List ℕ) (start stop : ℕ) : Type 0 where
+-- after blanks stands such a thing, from a place up to another (IEEE 1364-2001, compiler directives)
+pub record AfterBlanks (is : LeadingPart) (bytes : List ℕ) (start stop : ℕ) : Type 0 where
   pub space : IsLead Blank bytes start
   pub some : start < stop
   pub found : is (drop start bytes) (stop - start)
   pub inside : stop ≤ length bytes
 
--- behind blanks stands none
-pub record NothingBehindBlanks (is : LeadingPart) (bytes : List ℕ) : Type 0 where
+-- after blanks stands none
+pub record NothingAfterBlanks (is : LeadingPart) (bytes : List ℕ) : Type 0 where
   pub start : ℕ
   pub space : IsLead Blank bytes start
   pub none : is (drop start bytes) 0
@@ -63,7 +63,7 @@ abbrev pub IsLineNumber : Option ℕ → List ℕ → Type 0
 IsLineNumber None digits = (nat_le 1 (digits_value digits) && nat_le (digits_value digits) 2147483647) ≡ false
 IsLineNumber (Some number) digits = (number ≡ digits_value digits) × (0 < number) × (number ≤ 2147483647)
 
--- the name that stands in front, where a level ends the line behind it (IEEE 1364-2001, `line`)
+-- the name that stands in front, where a level ends the line after it (IEEE 1364-2001, `line`)
 abbrev pub IsShownName : Option (ArrayString 1024) → List ℕ → Type 0
 IsShownName None bytes = (number : ℕ) → renumbered_name number bytes ≡ None
 IsShownName (Some name) bytes = (number : ℕ) → renumbered_name number bytes ≡ Some (record { number = number; name = name.bytes })

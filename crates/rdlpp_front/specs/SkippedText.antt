@@ -40,7 +40,7 @@ pub data IsPassedOnce (mode : Mode) (bytes : List ℕ) (len : ℕ) (next : Mode)
   Stretch : mode ≡ Plain → 0 < len → len ≡ plain_len bytes → next ≡ Plain → IsPassedOnce mode bytes len next
   OneToken : (mode ≡ Plain → plain_len bytes ≡ 0) → stops_at mode bytes ≡ false → len ≡ (token_of mode bytes).len → next ≡ (token_of mode bytes).next_mode → IsPassedOnce mode bytes len next
 
--- what is passed of skipped text step by step, from a mode, and the mode behind it (this project's profile)
+-- what is passed of skipped text step by step, from a mode, and the mode after it (this project's profile)
 pub data IsPassed (mode : Mode) (held : List ℕ) : ℕ → Mode → Type 0 where
   Begins : IsPassed mode held 0 mode
   Onward : (from len : ℕ) (mid next : Mode) → IsPassed mode held from mid → from < length held → IsPassedOnce mid (drop from held) len next → IsPassed mode held (from + len) next

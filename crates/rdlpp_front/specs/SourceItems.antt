@@ -12,7 +12,7 @@ use Rattle.rdlpp_scan.specs.Tokens.{token_of, plain_len}
 use Rattle.rdlpp_meaning.specs.declared.fault.FaultKind.{FaultKind}
 use Rattle.rdlpp_meaning.specs.declared.fault.FaultKind.TheVariants as fault
 use Rattle.rdlpp_meaning.specs.Meaning.{Checked, NameFault, Fine, unquoted}
-use Rattle.rdlpp_front.specs.Arguments.{BehindBlanks, IsClosedString, IsLead, LeadingPart, NothingBehindBlanks}
+use Rattle.rdlpp_front.specs.Arguments.{AfterBlanks, IsClosedString, IsLead, LeadingPart, NothingAfterBlanks}
 use Rattle.rdlpp_front.specs.declared.arguments.Argument.{Argument}
 use Rattle.rdlpp_front.specs.declared.item.SourceItem.{SourceItem}
 use Rattle.rdlpp_front.specs.declared.item.SourceItem.TheVariants.{Text, Usage, Define, Undef, Ifdef, Ifndef, Elsif, Else, Endif, Include, Line, Refused}
@@ -24,7 +24,7 @@ is_text_kind LineComment = true
 is_text_kind BlockComment = true
 is_text_kind _ = false
 
--- text that is copied, and the mode behind it: ordinary text, or a string or a comment, or the part of one that is held
+-- text that is copied, and the mode after it: ordinary text, or a string or a comment, or the part of one that is held
 pub data IsText (mode : Mode) (held : List ℕ) (len : ℕ) (next : Mode) : Type 0 where
   AtOrdinary : mode ≡ Plain → next ≡ Plain → 0 < len → len ≡ plain_len held → IsText mode held len next
   AtToken : is_text_kind (token_of mode held).kind ≡ true → next ≡ (token_of mode held).next_mode → len ≡ (token_of mode held).len → IsText mode held len next
@@ -44,17 +44,17 @@ pub record IsDirective (d : Directive) (held : List ℕ) : Type 0 where
   pub kind : (token_of Plain held).kind ≡ Back
   pub word : take (token_of Plain held).len held ≡ directive_word d
 
--- behind the word of a directive, which has so many bytes, a thing of a kind stands from a place up to another
+-- after the word of a directive, which has so many bytes, a thing of a kind stands from a place up to another
 pub record StandsAfter (is : LeadingPart) (word_len : ℕ) (held : List ℕ) (start stop : ℕ) : Type 0 where
   pub from : ℕ
   pub to : ℕ
-  pub given : BehindBlanks is (drop word_len held) from to
+  pub given : AfterBlanks is (drop word_len held) from to
   pub starts : start ≡ word_len + from
   pub stops : stop ≡ word_len + to
 
 -- one stands there, or none
 abbrev pub IsAfter : LeadingPart → ℕ → List ℕ → Option Argument → Type 0
-IsAfter is word_len held None = NothingBehindBlanks is (drop word_len held)
+IsAfter is word_len held None = NothingAfterBlanks is (drop word_len held)
 IsAfter is word_len held (Some a) = StandsAfter is word_len held a.start a.stop
 
 -- a directive with what it is given, which stands from a place up to another (IEEE 1364-2001, compiler directives)
@@ -65,7 +65,7 @@ pub record HasArgument (is : LeadingPart) (d : Directive) (held : List ℕ) (sta
 -- a directive that is given nothing of the kind
 pub record LacksArgument (is : LeadingPart) (d : Directive) (held : List ℕ) : Type 0 where
   pub word : IsDirective d held
-  pub none : NothingBehindBlanks is (drop (length (directive_word d)) held)
+  pub none : NothingAfterBlanks is (drop (length (directive_word d)) held)
 
 -- a directive, and what it is given
 abbrev pub IsArgumentOf : LeadingPart → Directive → List ℕ → Option Argument → Type 0

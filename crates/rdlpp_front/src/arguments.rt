@@ -1,4 +1,4 @@
-// What a directive is given behind its word.
+// What a directive is given after its word.
 ghost use Rattle.std.specs.Prelude.{◌≤◌, length};
 ghost use Rattle.rdlpp_front.specs.Arguments.{IsClosedString, IsLead};
 ghost use Rattle.rdlpp_front.specs.SourceItems.{IsAfter};
@@ -13,11 +13,11 @@ use rdlpp_scan::{Kind, Mode, first_token, rest_of_line};
 pub struct Argument {
     /// The place of its first byte.
     pub start: usize,
-    /// The place behind its last byte, and behind the directive.
+    /// The place after its last byte, and after the directive.
     pub stop: usize,
 }
 
-// The name that stands, behind blanks or at once, behind the word of an `undef`, `ifdef`, `ifndef` or `elsif`, which has so many
+// The name that stands, after blanks or at once, after the word of an `undef`, `ifdef`, `ifndef` or `elsif`, which has so many
 // bytes; `None` where none stands there on the same line. The held bytes end at a line end or where the text ends.
 // IEEE 1364-2001, compiler directives; that the name stands on the same line is this project's profile.
 pub(crate) fn name_after(held: &[u8], word_len: usize) -> Option<Argument>
@@ -35,7 +35,7 @@ pub(crate) fn name_after(held: &[u8], word_len: usize) -> Option<Argument>
     })
 }
 
-// The string that stands, behind blanks or at once, behind the word of an `include`, which has so many bytes, with its quotes;
+// The string that stands, after blanks or at once, after the word of an `include`, which has so many bytes, with its quotes;
 // `None` where none stands there that closes on the same line. The held bytes end at a line end or where the text ends.
 // IEEE 1364-2001, `include`; that the string closes on the same line is this project's profile.
 pub(crate) fn string_after(held: &[u8], word_len: usize) -> Option<Argument>

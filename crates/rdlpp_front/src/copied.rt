@@ -14,7 +14,7 @@ pub struct Copied {
     pub len: usize,
     /// How many of them are LF.
     pub lines: usize,
-    /// The mode behind them.
+    /// The mode after them.
     pub next: Mode,
 }
 

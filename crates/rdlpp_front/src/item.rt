@@ -13,16 +13,16 @@ use rdlpp_scan::{
 /// What the held bytes of a source begin with.
 #[derive(Clone, Copy)]
 pub enum SourceItem {
-    /// So many bytes that are copied, and the mode behind them: ordinary text, or a string or a
+    /// So many bytes that are copied, and the mode after them: ordinary text, or a string or a
     /// comment, or the part of one that is held.
     Text(usize, Mode),
     /// A backquote and a name that isn't reserved, of so many bytes together.
     Usage(usize),
     /// A `define`, whose logical line may not all be held yet.
     Define,
-    /// An `undef`, and the name that it is given, where one stands behind it on its line.
+    /// An `undef`, and the name that it is given, where one stands after it on its line.
     Undef(Option<Argument>),
-    /// An `ifdef`, and the name that it is given, where one stands behind it on its line.
+    /// An `ifdef`, and the name that it is given, where one stands after it on its line.
     Ifdef(Option<Argument>),
     /// An `ifndef`, and its name likewise.
     Ifndef(Option<Argument>),
@@ -32,7 +32,7 @@ pub enum SourceItem {
     Else,
     /// An `endif`.
     Endif,
-    /// An `include`, and the string that it is given, with its quotes, where one stands behind it that
+    /// An `include`, and the string that it is given, with its quotes, where one stands after it that
     /// closes on its line.
     Include(Option<Argument>),
     /// A `line`.

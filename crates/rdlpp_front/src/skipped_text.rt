@@ -16,7 +16,7 @@ use rdlpp_scan::{Directive, Kind, Mode, Token, first_token, line_ends_in, plain_
 pub struct SkippedText {
     /// How many bytes.
     pub len: usize,
-    /// Where the text stands behind them: in plain text, or as before them where there are none.
+    /// Where the text stands after them: in plain text, or as before them where there are none.
     pub mode: Mode,
     /// How many of them are LF, which are written.
     pub line_ends: usize,

@@ -140,7 +140,7 @@ turn-room : (sources more : ℕ) (o : Progress) (c : Command) (s : State) → tu
 unfolding turn
 turn-room sources more o c s = grind (arith, name-room)
 
--- what goes on behind a test agrees where both ways do
+-- what goes on after a test agrees where both ways do
 tested-agrees : (sources more : ℕ) (t : Test) (c : Command) (s : State) (live skipped live' skipped' : State → Passage)
     → PassageAgrees more (live s) (live' (roomier sources more s)) → PassageAgrees more (skipped s) (skipped' (roomier sources more s))
     → PassageAgrees more (by_test t c s live skipped) (by_test t c (roomier sources more s) live' skipped')
@@ -186,7 +186,7 @@ pub in-room : (sources more : ℕ) (s : State) (m : ℕ) → s.conditions_left �
 unfolding in_conditional
 in-room sources more s m e = grind arith
 
--- and behind one
+-- and after one
 pub past-room : (sources more : ℕ) (s : State) → past_conditional (roomier sources more s) ≡ roomier sources more (past_conditional s)
 unfolding past_conditional
 past-room sources more s = grind arith
@@ -198,14 +198,14 @@ record Widens (rules : Rules) (depth most : ℕ) (define : List Macro → List �
   defines : AllDefined rules define
   texts : (text : List ℕ) → TokensTorn true (rules.tokens text) (tokens text)
 
--- what goes on behind a fault of a limit agrees with all, by the outcome's fault
+-- what goes on after a fault of a limit agrees with all, by the outcome's fault
 limited-by : (more : ℕ) (x : List ℕ) (o f : Option Report) (s : State) (next : State → Passage) (q : Passage) → o ≡ f → IsFault f
     → (NamesNoLimit f → ⊥) → PassageAgrees more (goes_on (leaves (record { bytes = x; fault = o }) s) next) q
 unfolding PassageAgrees goes_on leaves IsFault after_bytes
 limited-by more x None f s next q e h limit = absurd (subst (λ (z : Option Report). IsFault z) (sym e) h)
 limited-by more x (Some g) f s next q e h limit = λ n. absurd (limit (subst (λ (z : Option Report). NamesNoLimit z) e n))
 
--- what goes on behind outcomes that end in a fault agrees where they do, by the first one's fault
+-- what goes on after outcomes that end in a fault agrees where they do, by the first one's fault
 faulty-by : (sources more : ℕ) (x : List ℕ) (f : Option Report) (b : Outcome) (s : State) (next next' : State → Passage)
     → IsFault f → Agrees (record { bytes = x; fault = f }) b
     → PassageAgrees more (goes_on (leaves (record { bytes = x; fault = f }) s) next) (goes_on (leaves b (roomier sources more s)) next')
@@ -214,7 +214,7 @@ faulty-by sources more x None b s next next' h k = absurd h
 faulty-by sources more x (Some g) b s next next' h k =
     λ n. (sources, ap (λ (o : Outcome). goes_on (leaves o (roomier sources more s)) next') (k n))
 
--- what goes on behind torn outcomes agrees
+-- what goes on after torn outcomes agrees
 faulty-agrees : (sources more : ℕ) (a b : Outcome) (s : State) (next next' : State → Passage) → TornAgrees Unit a b
     → PassageAgrees more (goes_on (leaves a s) next) (goes_on (leaves b (roomier sources more s)) next')
 faulty-agrees sources more a b s next next' h = faulty-by sources more a.bytes a.fault b s next next' (h.faulty tt) h.agrees
@@ -344,7 +344,7 @@ module _ (rules : Rules) (depth most : ℕ) (define : List Macro → List ℕ �
     unfoldable Resumes : List Piece → List Piece → Type 0
     Resumes ps qs = (place : Place) (sources : ℕ) (s : State) → PassageAgrees more (resume rules included_meaning place ps s) (resume larger included_meaning' place qs (roomier sources more s))
 
-    -- what resumes behind a conditional that is opened
+    -- what resumes after a conditional that is opened
     conditional-agrees : (ps qs : List Piece) (place : Place) (sources : ℕ) (s : State) (m : ℕ) → Resumes ps qs → s.conditions_left ≡ suc m
         → PassageAgrees more (resume rules included_meaning place ps (in_conditional s)) (resume larger included_meaning' place qs (in_conditional (roomier sources more s)))
     unfolding Resumes
@@ -352,7 +352,7 @@ module _ (rules : Rules) (depth most : ℕ) (define : List Macro → List ℕ �
         subst (λ (t : State). PassageAgrees more (resume rules included_meaning place ps (in_conditional s)) (resume larger included_meaning' place qs t))
         (sym (in-room sources more s m e)) (r place sources (in_conditional s))
 
-    -- what resumes behind the end of a conditional
+    -- what resumes after the end of a conditional
     end-agrees : (ps qs : List Piece) (place : Place) (sources : ℕ) (s : State) → Resumes ps qs
         → PassageAgrees more (resume rules included_meaning place ps (past_conditional s)) (resume larger included_meaning' place qs (past_conditional (roomier sources more s)))
     unfolding Resumes
@@ -360,7 +360,7 @@ module _ (rules : Rules) (depth most : ℕ) (define : List Macro → List ℕ �
         subst (λ (t : State). PassageAgrees more (resume rules included_meaning place ps (past_conditional s)) (resume larger included_meaning' place qs t))
         (sym (past-room sources more s)) (r place sources (past_conditional s))
 
-    -- what resumes behind a passage
+    -- what resumes after a passage
     following-agrees : (ps qs : List Piece) (place : Place) (p q : Passage) → Resumes ps qs → PassageAgrees more p q
         → PassageAgrees more (goes_on p (λ after. resume rules included_meaning place ps after)) (goes_on q (λ after. resume larger included_meaning' place qs after))
     unfolding Resumes
@@ -410,7 +410,7 @@ module _ (rules : Rules) (depth most : ℕ) (define : List Macro → List ℕ �
     piece-agrees (Closing c) ps qs r (Skipped (suc n) o os) sources s = following-agrees ps qs (Skipped n o os) _ _ r (leaves-same sources more s (skipped_command c))
     piece-agrees (Closing c) ps qs r (Skipped zero o os) sources s = end-agrees ps qs (Live os) sources s r
 
-    -- a run that is torn behind its first token, from each place
+    -- a run that is torn after its first token, from each place
     later-torn : (xs : List SourceToken) (b : Breach) (bytes : List ℕ) (line : ℕ) (us : List SourceToken) (qs : List Piece)
         → is_limit (breach_kind b) ≡ true → TornBy token_role (token_role (record { sort = Broken b; bytes = bytes; line = line })) us
         → (place : Place) (sources : ℕ) (s : State)

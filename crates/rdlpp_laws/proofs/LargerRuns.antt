@@ -126,7 +126,7 @@ comment-torn most most' j k' line n mode held more limit q =
     tears-comment held j.breach text (line + line_ends text) _ _ limit (ap (λ (xs : List ℕ). slice_index xs 0 == 34) (take-length held) ∙ q)
     (comment-small most j line held) (comment-head c' line line n mode (held ++ more))
 
--- a string that is open where the text ends, by what is behind it
+-- a string that is open where the text ends, by what is after it
 open-string-torn : (most most' : ℕ) (k k' : Option Break) (line : ℕ) (b : ℕ) (bs more : List ℕ)
     → Ends (b ∷ bs) more k k' → IsOwnBreak k'
     → token_of Plain (b ∷ bs) ≡ record { kind = Str; len = length (b ∷ bs); next_mode = InStr }
@@ -146,7 +146,7 @@ open-string-torn most most' k k' line b bs more ends own is e =
     (string-torn most most' j k' line v.len v.next_mode b bs more limit own w
     (row-string held (token_of Plain held) (token_of-row held) (ap (λ (t : Token). t.kind) is)))))
 
--- a comment that is open where the text ends, by what is behind it
+-- a comment that is open where the text ends, by what is after it
 open-comment-torn : (most most' : ℕ) (k k' : Option Break) (line : ℕ) (held more : List ℕ)
     → Ends held more k k' → IsOwnBreak k'
     → token_of Plain held ≡ record { kind = BlockComment; len = length held; next_mode = InBlock }
@@ -182,7 +182,7 @@ perl-seam most most' k k' line t v held more e is lt =
     (subst (λ (x : Token). StepTorn held (step_by c line line x held) (step_by c' line line x (held ++ more))) (sym is)
     (perl-torn c c' line t.len held more lt))
 
--- a step at a token, by how it stands in the text with more behind it
+-- a step at a token, by how it stands in the text with more after it
 seam-torn : (most most' : ℕ) (k k' : Option Break) (line : ℕ) (b : ℕ) (bs more : List ℕ)
     → most ≤ most' → Ends (b ∷ bs) more k k' → IsOwnBreak k'
     → Seam (b ∷ bs) more (token_of Plain (b ∷ bs)) (token_of Plain ((b ∷ bs) ++ more))
@@ -233,7 +233,7 @@ first-is c o l b bs = by_step (source_step c Plain o l (b ∷ bs))
     by_step (Last t) = ([], refl)
     by_step (Next t) = (source_tokens c Plain l (line_after b l) (length t.bytes - 1) bs, refl)
 
--- what is behind the first token of a text
+-- what is after the first token of a text
 small-next : (c : Course) (o l : ℕ) (held : List ℕ) (t : SourceToken) (n : ℕ) → 0 < n → n ≤ length held → t.bytes ≡ take n held
     → source_step c Plain o l held ≡ Next t
     → source_tokens c Plain o l 0 held ≡ t ∷ source_tokens c Plain l (l + line_ends (take n held)) 0 (drop n held)
@@ -455,7 +455,7 @@ pub record TornAgrees (torn : Type 0) (a b : Outcome) : Type 0 where
   pub faulty : torn → IsFault a.fault
   pub agrees : Agrees a b
 
--- what ends in a fault does so behind an outcome, by that one's fault
+-- what ends in a fault does so after an outcome, by that one's fault
 then-faulty-by : (x : List ℕ) (f : Option Report) (c : Outcome) → IsFault c.fault → IsFault (and_then (record { bytes = x; fault = f }) c).fault
 unfolding IsFault and_then
 then-faulty-by x None c h = h

@@ -113,7 +113,7 @@ step-torn {A} at r fits more x n c d imp h =
     (λ e. subst (λ (t : Turn). ScanTorn (suc n) (scanned (turn at r fits) x c) (scanned t x d)) (sym e) (turn-torn (turn at r fits) x n c d h))
     (fitting at r fits more imp)
 
--- a string behind the name of a macro isn't passed
+-- a string after the name of a macro isn't passed
 string-missing : {A : Type 0} (r : Role) (x : A) (rest : Scanned A) → IsStringRole r → scanned (turn_before r) x rest ≡ ScanFault ArgumentsMissing
 unfolding IsStringRole turn_before scanned
 string-missing Text x rest h = refl
@@ -242,7 +242,7 @@ torn-written r us h = absurd h
 
 -- Pieces of tokens of which a limit tears the last: those of larger limits, up to the run that the torn token ends.
 
--- whether a line may end behind a token by what it is: not behind a backquoted name, nor behind blanks
+-- whether a line may end after a token by what it is: not after a backquoted name, nor after blanks
 unfoldable pub ends_line : Sort → Bool
 ends_line (Ordinary Back) = false
 ends_line (Ordinary Blank) = false
@@ -404,7 +404,7 @@ string-broken : (b : Breach) (bytes : List ℕ) (line : ℕ) (ts : List SourceTo
 unfolding string_in_front
 string-broken b bytes line ts = refl
 
--- nor anything behind blanks
+-- nor anything after blanks
 past-broken : (f : List SourceToken → Argument) (b : Breach) (bytes : List ℕ) (line : ℕ) (ts : List SourceToken)
     → past_blanks f (record { sort = Broken b; bytes = bytes; line = line } ∷ ts) ≡ no_argument
 unfolding past_blanks
@@ -431,7 +431,7 @@ broken-by : (f : List SourceToken → Argument) → IsFront f → (b : Breach) (
 broken-by f i b sort bytes line ts e =
     subst (λ (x : Sort). f (record { sort = x; bytes = bytes; line = line } ∷ ts) ≡ no_argument) (sym e) (i.broken b bytes line ts)
 
--- a broken token in front, behind blanks
+-- a broken token in front, after blanks
 past-by : (f : List SourceToken → Argument) (b : Breach) (sort : Sort) (bytes : List ℕ) (line : ℕ) (ts : List SourceToken)
     → sort ≡ Broken b → past_blanks f (record { sort = sort; bytes = bytes; line = line } ∷ ts) ≡ no_argument
 past-by f b sort bytes line ts e =
@@ -444,7 +444,7 @@ front-torn f i [] us h = ap f (sym h)
 front-torn f i (t ∷ ts) us (inl e) = broken-by f i e.breach t.sort t.bytes t.line ts e.broken ∙ sym (i.given us (e.nothing refl))
 front-torn f i (t ∷ ts) us (inr (rest, e, r)) = i.alone t ts rest ∙ ap f (sym e)
 
--- what stands behind blanks there, where the first token is the same, by what it is
+-- what stands after blanks there, where the first token is the same, by what it is
 past-same : (f : List SourceToken → Argument) → IsFront f → (sort : Sort) (bytes : List ℕ) (line : ℕ) (ts rest : List SourceToken)
     → TokensTorn (ends_line sort) ts rest
     → past_blanks f (record { sort = sort; bytes = bytes; line = line } ∷ ts) ≡ past_blanks f (record { sort = sort; bytes = bytes; line = line } ∷ rest)
@@ -454,7 +454,7 @@ past-same f i (Ordinary Blank) bytes line ts rest r =
 past-same f i (Ordinary k) bytes line ts rest r = i.alone (record { sort = Ordinary k; bytes = bytes; line = line }) ts rest
 past-same f i _ bytes line ts rest r = refl
 
--- what stands behind blanks in front of torn tokens
+-- what stands after blanks in front of torn tokens
 past-torn : (f : List SourceToken → Argument) → IsFront f → (ts us : List SourceToken) → TokensTorn false ts us → past_blanks f ts ≡ past_blanks f us
 unfolding TokensTorn
 past-torn f i [] us h = ap (past_blanks f) (sym h)

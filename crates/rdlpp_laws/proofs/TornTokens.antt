@@ -35,7 +35,7 @@ pub record Suits (r : Role) (u : SourceToken) : Type 0 where
   pub torn : (rest : List SourceToken) → TornBy token_role r (leading (u ∷ rest))
   pub nothing : (rest : List SourceToken) → GivesNothing (u ∷ rest)
 
--- a step of a text and that of the text with more behind it: the same token within the text, the same last token, or one that
+-- a step of a text and that of the text with more after it: the same token within the text, the same last token, or one that
 -- a limit tears
 pub data StepTorn (held : List ℕ) (s s' : Step) : Type 0 where
   Goes : (t : SourceToken) (n : ℕ) → s ≡ Next t → s' ≡ Next t → 0 < n → n ≤ length held → t.bytes ≡ take n held
@@ -44,7 +44,7 @@ pub data StepTorn (held : List ℕ) (s s' : Step) : Type 0 where
   Tears : (t : SourceToken) (b : Breach) → s ≡ Last t → t.sort ≡ Broken b → is_limit (breach_kind b) ≡ true
       → Suits (token_role t) (step_head s') → StepTorn held s s'
 
--- a text and its break, and the text with more behind it and its break: nothing more, or whole lines that a limit ends
+-- a text and its break, and the text with more after it and its break: nothing more, or whole lines that a limit ends
 unfoldable pub IsBreakOfLimit : Option Break → Type 0
 IsBreakOfLimit None = ⊥
 IsBreakOfLimit (Some k) = (k.breach ≡ LineLong) ⊎ (k.breach ≡ SourceLong)
@@ -222,7 +222,7 @@ pub define-torn : (most most' : ℕ) (k k' : Option Break) (line : ℕ) (held mo
 define-torn most most' k k' line held more some le ends =
     define-torn-by most most' k k' line held more (logical_len 0 0 held) some le ends refl
 
--- a text ends at a line end, or nothing is behind it
+-- a text ends at a line end, or nothing is after it
 pub ends-line : (held more : List ℕ) (k k' : Option Break) → Ends held more k k' → EndsLine held more
 ends-line held more k k' (inl h) = inr h.0
 ends-line held more k k' (inr h) = inl h.0
@@ -242,7 +242,7 @@ run-short p ten b [] h = none-passes (p b) (ap p (line_end-ten b (IsWholeLines-o
 run-short p ten b (c ∷ bs) h =
     one-more (p b) (prefix_len p (c ∷ bs)) (length (c ∷ bs)) (run-short p ten c bs (IsWholeLines-rest b (c ∷ bs) h))
 
--- a run behind the first byte
+-- a run after the first byte
 following-short : (p : ℕ → Bool) → p 10 ≡ false → (b : ℕ) (bs : List ℕ) → (b ≡ 10 → ⊥) → IsWholeLines (b ∷ bs) → suc (prefix_len p bs) < length (b ∷ bs)
 following-short p ten b [] other h = absurd (other (line_end-ten b (IsWholeLines-one b h)))
 following-short p ten b (c ∷ bs) other h = let e = run-short p ten c bs (IsWholeLines-rest b (c ∷ bs) h) in omega (arith, e)
@@ -298,7 +298,7 @@ plain-short b bs =
     choice-short all (b == 44) _ _ (λ h. other-short all (whole Comma 1) refl) (λ _.
     other-short all (whole Other 1) refl))))))))))))))
 
--- a token that is taken alike from a text and from one with more behind it
+-- a token that is taken alike from a text and from one with more after it
 goes-alike : (held more : List ℕ) (kind : Kind) (n line : ℕ) (s s' : Step) → 0 < n → n ≤ length held
     → (ends_line (Ordinary kind) ≡ false → IsWholeLines held → n < length held)
     → s ≡ Next (record { sort = Ordinary kind; bytes = take n held; line = line })
@@ -376,7 +376,7 @@ unfoldable pub IsOwnBreak : Option Break → Type 0
 IsOwnBreak None = Unit
 IsOwnBreak (Some k) = (k.breach ≡ LineLong) ⊎ (k.breach ≡ SourceLong)
 
--- whole lines have an LF, and so have their bytes with more behind them
+-- whole lines have an LF, and so have their bytes with more after them
 pub has_line_end : (b : ℕ) (bs more : List ℕ) → IsWholeLines (b ∷ bs) → list_any is_line_end ((b ∷ bs) ++ more) ≡ true
 has_line_end b [] more h = ap (λ (x : Bool). x || list_any is_line_end more) (IsWholeLines-one b h)
 has_line_end b (c ∷ bs) more h =
@@ -447,7 +447,7 @@ end-string c opened line bytes None own q = inr (StringOpen, refl, quote-role (s
 end-string c opened line bytes (Some k) own q =
     inr (k.breach, refl, limit-role k.breach bytes (line + line_ends bytes) own q)
 
--- a string that isn't closed, by whether `<%` stands behind it
+-- a string that isn't closed, by whether `<%` stands after it
 open-string : (c : Course) (opened line : ℕ) (bytes : List ℕ) (x : Bool) → IsOwnBreak c.break → (slice_index bytes 0 == 34) ≡ true
     → HeadIsString (if x then broken PerlFound bytes (line + line_ends bytes) else open_end c StringOpen opened line bytes)
 unfolding HeadIsString IsStringHead step_head broken broken_role open_end
@@ -455,7 +455,7 @@ open-string c opened line bytes true own q =
     inr (PerlFound, refl, quote-role (slice_index bytes 0 == 34) PerlFound (line + line_ends bytes) q)
 open-string c opened line bytes false own q = end-string c opened line bytes c.break own q
 
--- a string's step, by the mode behind it
+-- a string's step, by the mode after it
 pub string-head : (c : Course) (opened line n : ℕ) (mode : Mode) (bytes : List ℕ) → IsOwnBreak c.break → (slice_index (take n bytes) 0 == 34) ≡ true
     → list_any is_line_end (take n bytes) ≡ true
     → HeadIsString (string_step c opened line (record { kind = Str; len = n; next_mode = mode }) bytes)
@@ -490,7 +490,7 @@ unfolding IsCommentHead step_head broken
 end-comment c opened line bytes None = inr (CommentOpen, refl)
 end-comment c opened line bytes (Some k) = inr (k.breach, refl)
 
--- a comment's step, by the mode behind it
+-- a comment's step, by the mode after it
 pub comment-head : (c : Course) (opened line n : ℕ) (mode : Mode) (bytes : List ℕ)
     → IsCommentHead (step_head (comment_step c opened line (record { kind = BlockComment; len = n; next_mode = mode }) bytes)).sort
 unfolding IsCommentHead comment_step step_head open_end

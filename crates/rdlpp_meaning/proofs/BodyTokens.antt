@@ -22,7 +22,7 @@ run_positive p b bs e = rw e (omega arith)
 suc_positive : (n : ℕ) → 0 < suc n
 suc_positive n = omega arith
 
--- a suffix behind a token that has a byte
+-- a suffix after a token that has a byte
 drop_after : (n b : ℕ) (bs : List ℕ) → 0 < n → drop n (b ∷ bs) ≡ drop (n - 1) bs
 drop_after zero b bs h = absurd (omega arith)
 drop_after (suc n) b bs h = let e : suc n - 1 ≡ n = omega arith in rw e refl
@@ -46,12 +46,12 @@ string_at : List ℕ → ℕ → Token
 string_at bytes stop =
     if slice_index bytes stop == 34 then whole Str (suc stop) else record { kind = Str; len = stop; next_mode = InStr }
 
--- one that stops behind a byte
+-- one that stops after a byte
 string_after : (bytes : List ℕ) (stop : ℕ) → 0 < stop → HasByte (string_at bytes stop)
 unfolding string_at HasByte whole
 string_after bytes stop h = grind (arith, chosen, suc_positive)
 
--- a string whose part begins behind its quote
+-- a string whose part begins after its quote
 string_has : (from : ℕ) (bytes : List ℕ) → 0 < from → HasByte (string_token from bytes)
 unfolding string_token string_at
 string_has from bytes h = string_after bytes (from + string_stop false (drop from bytes)) (omega arith)
@@ -68,12 +68,12 @@ block_at : List ℕ → ℕ → Token
 block_at bytes stop =
     if nat_lt stop (length bytes) then whole BlockComment (stop + 2) else record { kind = BlockComment; len = stop; next_mode = InBlock }
 
--- one that stops behind a byte
+-- one that stops after a byte
 block_after : (bytes : List ℕ) (stop : ℕ) → 0 < stop → HasByte (block_at bytes stop)
 unfolding block_at HasByte whole
 block_after bytes stop h = grind (arith, chosen, nat_lt)
 
--- a comment whose text begins behind its opener
+-- a comment whose text begins after its opener
 block_has : (from : ℕ) (bytes : List ℕ) → 0 < from → HasByte (block_token from bytes)
 unfolding block_token block_at
 block_has from bytes h = block_after bytes (from + first_place ends_block_comment (drop from bytes)) (omega arith)

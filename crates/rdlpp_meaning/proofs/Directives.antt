@@ -18,7 +18,7 @@ use Rattle.rdlpp_meaning.proofs.LiveText.{only_blanks-append}
 
 -- Laws of what remains of a file where a directive stands in front: for each kind of piece and each place.
 
--- tokens that are passed over leave what the flag of blanks is behind their bytes
+-- tokens that are passed over leave what the flag of blanks is after their bytes
 pub pieces_skip : (first : Bool) (k : ℕ) (ts : List SourceToken)
     → pieces first k ts ≡ pieces (only_blanks first (bytes_of (take k ts))) 0 (drop k ts)
 unfolding pieces only_blanks
@@ -64,7 +64,7 @@ module _ (P : List SourceToken → Argument → Type 0) (none : (ts : List Sourc
     strings [] = none []
     strings (t ∷ ts) = string_by t.sort t.bytes t.line ts
 
-    -- what stands behind blanks, by what is given, and by what the first token is
+    -- what stands after blanks, by what is given, and by what the first token is
     blanks : (bytes : List ℕ) (line : ℕ) (ts : List SourceToken) (given : Option (List ℕ)) (text : List ℕ) (used : ℕ) → P ts (record { given = given; text = text; used = used })
         → let t : SourceToken = record { sort = Ordinary Blank; bytes = bytes; line = line } in
         P (t ∷ ts) (after_blanks t (record { given = given; text = text; used = used }))
@@ -100,7 +100,7 @@ argument_takes d ts =
     argument_by (λ us a. bytes_of (take a.used us) ≡ a.text) (λ us. refl) (λ bytes line us. append-nil bytes) (λ bytes line us. append-nil bytes)
     (λ bytes line us given text used e. ap (λ (x : List ℕ). bytes ++ x) e) d ts
 
--- a directive in front is a piece in front of those of the tokens behind it
+-- a directive in front is a piece in front of those of the tokens after it
 pub pieces_directive : (d : Directive) (first : Bool) (t : SourceToken) (ts : List SourceToken) → directive_of t ≡ Some d
     → pieces first 0 (t ∷ ts)
     ≡ piece_of (command_in_front d first t ts)
@@ -116,7 +116,7 @@ pub directive_piece : (rules : Rules) (place : Place) (d : Directive) (first : B
 unfolding resumed
 directive_piece rules place d first t ts s p e is = grind (arith, pieces_directive)
 
--- What a directive takes where blanks and a name stand behind its word.
+-- What a directive takes where blanks and a name stand after its word.
 
 -- whether a directive wants the name of a macro
 unfoldable pub wants_name : Directive → Bool
@@ -126,7 +126,7 @@ wants_name Ifndef = true
 wants_name Elsif = true
 wants_name d = false
 
--- such a directive takes what stands behind blanks
+-- such a directive takes what stands after blanks
 pub takes_name : (d : Directive) (ts : List SourceToken) → wants_name d ≡ true → argument_of d ts ≡ past_blanks name_in_front ts
 unfolding wants_name argument_of
 takes_name Undef ts e = refl
@@ -155,7 +155,7 @@ pub takes_name_after_blanks : (d : Directive) (blanks name : List ℕ) (k l : �
 unfolding past_blanks name_in_front one_argument after_blanks
 takes_name_after_blanks d blanks name k l ts e = takes_name d (blank_token blanks k ∷ name_token name l ∷ ts) e
 
--- What an `include` takes behind its word: a string that is closed on its line, behind blanks or at once.
+-- What an `include` takes after its word: a string that is closed on its line, after blanks or at once.
 
 -- a string as a token
 abbrev pub string_token : List ℕ → ℕ → SourceToken
@@ -186,7 +186,7 @@ line_token bytes line = record { sort = Renumbering; bytes = bytes; line = line 
 
 -- Laws of a nest of open sources: each step of the innermost is a step of the nest.
 
--- bytes in front of a passage stay there where more goes on behind it, by its fault
+-- bytes in front of a passage stay there where more goes on after it, by its fault
 front_by : (x y : List ℕ) (f : Option Report) (s : State) (next : State → Passage)
     → goes_on (after_bytes x (record { bytes = y; fault = f; after = s })) next
     ≡ after_bytes x (goes_on (record { bytes = y; fault = f; after = s }) next)
@@ -195,12 +195,12 @@ front_by x y (Some f) s next = refl
 front_by x y None s next =
     ap (λ (z : List ℕ). record { bytes = z; fault = (next s).fault; after = (next s).after }) (append_assoc x y (next s).bytes)
 
--- bytes in front of a passage stay there where more goes on behind it
+-- bytes in front of a passage stay there where more goes on after it
 pub after_bytes-goes_on : (x : List ℕ) (p : Passage) (next : State → Passage)
     → goes_on (after_bytes x p) next ≡ after_bytes x (goes_on p next)
 after_bytes-goes_on x p next = front_by x p.bytes p.fault p.after next
 
--- nothing behind a passage changes nothing, by its fault
+-- nothing after a passage changes nothing, by its fault
 nothing_by : (x : List ℕ) (f : Option Report) (s : State)
     → goes_on (record { bytes = x; fault = f; after = s }) (λ after. leaves (gives []) after) ≡ record { bytes = x; fault = f; after = s }
 unfolding goes_on after_bytes leaves gives
@@ -248,7 +248,7 @@ branches_conditional d = false
 -- The LF that an included text is followed by, as a reader tells it that takes the text in parts: by whether a byte came at all and
 -- whether the last one was an LF.
 
--- whether a text stands in mid-line behind bytes, where it did or didn't before them
+-- whether a text stands in mid-line after bytes, where it did or didn't before them
 unfoldable pub in_line : Bool → List ℕ → Bool
 in_line torn [] = torn
 in_line torn (b ∷ bs) = in_line (not (is_line_end b)) bs

@@ -35,7 +35,7 @@ use Rattle.rdlpp_meaning.specs.Substitution.{body_tokens, spelled}
 use Rattle.rdlpp_meaning.specs.TextTokens.{text_tokens}
 use Rattle.rdlpp_meaning.proofs.SourceCalls.{kept-map, source_kept, unlined_bytes, unlined_role}
 
--- A text that is cut at a boundary of its tokens has the tokens before the cut in front of it and the others behind it.
+-- A text that is cut at a boundary of its tokens has the tokens before the cut in front of it and the others after it.
 
 -- the tokens of a body are those of its text from plain text on
 pub body_text : (bs : List ℕ) → body_tokens bs ≡ text_tokens Plain bs
@@ -120,7 +120,7 @@ spelled_cut (u ∷ us) vs (t ∷ ts) bs e =
     }
 
 -- how a text is cut at a boundary of its tokens: the bytes before the cut, the tokens that they have, and those of what is
--- behind it, from some mode on
+-- after it, from some mode on
 pub record IsTextCut (m : Mode) (bs : List ℕ) (us vs : List SourceToken) : Type 0 where
   pub bytes : bytes_of us ≡ take (length (bytes_of us)) bs
   pub inside : length (bytes_of us) ≤ length bs
@@ -140,7 +140,7 @@ text_cut m bs us vs e =
     let following = tokens_from-after_some c.before c.following m bs c.whole in
     grind (arith, tokens_from-front, spelled_front)
 
--- whether a token of a role leaves plain text behind it, wherever it stands
+-- whether a token of a role leaves plain text after it, wherever it stands
 unfoldable pub closes_text : Role → Bool
 closes_text Text = false
 closes_text KeptComment = false
@@ -153,7 +153,7 @@ closed_role Str bytes e = absurd (false≢true e)
 closed_role BlockComment bytes e = absurd (false≢true e)
 closed_role k bytes e = refl
 
--- what is behind such a first token begins in plain text
+-- what is after such a first token begins in plain text
 first_closed : (m : Mode) (bs : List ℕ) → closes_text (token_role (first_spelled m bs)) ≡ true → (token_of m bs).next_mode ≡ Plain
 unfolding first_spelled token_role
 first_closed m bs e = closed_kind_plain m bs (closed_role (token_of m bs).kind (take (token_of m bs).len bs) e)
@@ -162,7 +162,7 @@ first_closed m bs e = closed_kind_plain m bs (closed_role (token_of m bs).kind (
 nil_cons : (ts : List SourceToken) (x : SourceToken) (xs : List SourceToken) → ts ≡ [] → ts ≡ x ∷ xs → ⊥
 nil_cons ts x xs e h = cc
 
--- the first token of a text whose tokens begin with one, and the tokens behind it
+-- the first token of a text whose tokens begin with one, and the tokens after it
 record BeginsWith (m : Mode) (bs : List ℕ) (u : SourceToken) (vs : List SourceToken) : Type 0 where
   some : 0 < length bs
   first : first_spelled m bs ≡ u
@@ -173,7 +173,7 @@ begins : (m : Mode) (bs : List ℕ) (u : SourceToken) (vs : List SourceToken) �
 begins m [] u vs e = absurd (nil_cons (text_tokens m []) u vs (text_nil m) e)
 begins m (b ∷ bs) u vs e = grind (arith, text_step, first_is, rest_is)
 
--- behind a first token that leaves plain text, a text has the tokens that follow
+-- after a first token that leaves plain text, a text has the tokens that follow
 pub first_after : (m : Mode) (bs : List ℕ) (u : SourceToken) (vs : List SourceToken) → text_tokens m bs ≡ u ∷ vs → closes_text (token_role u) ≡ true
     → (text_tokens Plain (drop (length u.bytes) bs) ≡ vs) × (length u.bytes ≤ length bs)
 first_after m bs u vs e closed = grind (arith, begins, first_size, first_closed, token_of-part)
@@ -207,7 +207,7 @@ text_one m bs us u vs e one =
     let c = text_cut m bs us (u ∷ vs) e in
     grind (arith, begins, first_size, first_one)
 
--- behind a token that leaves plain text, a text has the tokens that follow
+-- after a token that leaves plain text, a text has the tokens that follow
 pub text_after : (m : Mode) (bs : List ℕ) (us : List SourceToken) (u : SourceToken) (vs : List SourceToken)
     → text_tokens m bs ≡ us ++ u ∷ vs → closes_text (token_role u) ≡ true
     → (text_tokens Plain (drop (length (bytes_of us) + length u.bytes) bs) ≡ vs) × (length (bytes_of us) + length u.bytes ≤ length bs)
@@ -217,25 +217,25 @@ text_after m bs us u vs e closed =
 
 -- The bytes that a call keeps have exactly the tokens that it keeps, but for their lines.
 
--- where a text stands behind a row of tokens of the token table: in plain text, where there is one
+-- where a text stands after a row of tokens of the token table: in plain text, where there is one
 unfoldable pub mode_after_row : Mode → List SourceToken → Mode
 mode_after_row m [] = m
 mode_after_row m (u ∷ us) = Plain
 
--- behind a row in plain text there is plain text
+-- after a row in plain text there is plain text
 pub mode_after_plain : (us : List SourceToken) → mode_after_row Plain us ≡ Plain
 unfolding mode_after_row
 mode_after_plain [] = refl
 mode_after_plain (u ∷ us) = refl
 
--- behind a last token there is plain text
+-- after a last token there is plain text
 pub mode_after_last : (m : Mode) (us : List SourceToken) (u : SourceToken) → mode_after_row m (us ++ u ∷ []) ≡ Plain
 unfolding mode_after_row
 mode_after_last m [] u = refl
 mode_after_last m (v ∷ us) u = refl
 
--- tokens of a source in a row: they are those of the text but for their lines, with others behind them, and what is behind
--- them is the source behind their bytes
+-- tokens of a source in a row: they are those of the text but for their lines, with others after them, and what is after
+-- them is the source after their bytes
 pub record IsSourceRow (c : Course) (m : Mode) (bs : List ℕ) (us rest : List SourceToken) : Type 0 where
   pub others : List SourceToken
   pub row : text_tokens m bs ≡ map unlined us ++ others

@@ -90,13 +90,13 @@ resume_joined rules included_meaning os t o (Opening c ∷ ps) s w = alone rules
 resume_joined rules included_meaning os t o (Branching c ∷ ps) s w = alone rules included_meaning os t o (Branching c ∷ ps) s w
 resume_joined rules included_meaning os t o (Closing c ∷ ps) s w = alone rules included_meaning os t o (Closing c ∷ ps) s w
 
--- a token that begins no directive is joined to the pieces behind it
+-- a token that begins no directive is joined to the pieces after it
 pub pieces_text : (first : Bool) (t : SourceToken) (ts : List SourceToken) → directive_of t ≡ None
     → pieces first 0 (t ∷ ts) ≡ joined t (pieces (only_blanks first t.bytes) 0 ts)
 unfolding pieces
 pieces_text first t ts e = rw (e, pieces) refl
 
--- a token that writes an outcome, and then what remains behind it
+-- a token that writes an outcome, and then what remains after it
 pub resumed_token : (rules : Rules) (os : List Progress) (first : Bool) (t : SourceToken) (ts : List SourceToken) (s : State) (o : Outcome)
     → directive_of t ≡ None → Writes rules s t o
     → resumed rules (Live os) first (t ∷ ts) s
@@ -141,7 +141,7 @@ pub run_refused : (rules : Rules) (s : State) (name : List ℕ) (line : ℕ) (us
 unfolding run_outcome usage_walk
 run_refused rules s name line us f word at e = grind (arith, expand_walk, usage_walks)
 
--- What a token of a run writes in front of the run behind it, and the directives that tokens begin.
+-- What a token of a run writes in front of the run after it, and the directives that tokens begin.
 
 -- a token that is copied begins no directive, by what it is
 copied_text_by : (sort : Sort) (bytes : List ℕ) (line : ℕ) → is_copied (record { sort = sort; bytes = bytes; line = line }) ≡ true
@@ -162,7 +162,7 @@ pub copied_writes : (rules : Rules) (s : State) (t : SourceToken) → is_copied 
 unfolding Writes run_outcome
 copied_writes rules s t e us = grind (arith, expand_walk, walk_copied)
 
--- only blanks behind bytes and then bytes
+-- only blanks after bytes and then bytes
 pub only_blanks-append : (first : Bool) (x y : List ℕ) → only_blanks first (x ++ y) ≡ only_blanks (only_blanks first x) y
 unfolding only_blanks
 only_blanks-append first [] y = refl
@@ -206,7 +206,7 @@ pub line_ends_of-append : (x y : List ℕ) → line_ends_of (x ++ y) ≡ line_en
 unfolding line_ends_of
 line_ends_of-append x y = filter-append is_line_end x y
 
--- The law of a run: its expansion, and then what remains behind it; and the same of a part of a run, as a usage with its call.
+-- The law of a run: its expansion, and then what remains after it; and the same of a part of a run, as a usage with its call.
 
 -- a run in front of pieces
 unfoldable run_before : List SourceToken → List Piece → List Piece
@@ -261,20 +261,20 @@ unfolding IsApart
 apart_by t u us None e rest first = rw (trailing_text u us e) (rest first)
 apart_by t u us (Some d) e rest first = rw (trailing_directive u us d e) (no_run t first u us d e)
 
--- a token isn't joined to what is behind a run
+-- a token isn't joined to what is after a run
 apart : (t : SourceToken) (us : List SourceToken) → IsApart t us
 unfolding IsApart trailing joined pieces
 apart t [] = λ first. refl
 apart t (u ∷ us) = apart_by t u us (directive_of u) refl (apart t us)
 
--- a token in front of a run in front of what is behind it
+-- a token in front of a run in front of what is after it
 joined_run : (t : SourceToken) (run us : List SourceToken) (first : Bool)
     → joined t (run_before run (pieces first 0 (trailing us))) ≡ Run (t ∷ run) ∷ pieces first 0 (trailing us)
 unfolding run_before joined IsApart
 joined_run t [] us first = apart t us first
 joined_run t (r ∷ run) us first = refl
 
--- the pieces of tokens are a run and then those of what is behind it
+-- the pieces of tokens are a run and then those of what is after it
 HasRun : List SourceToken → Type 0
 HasRun ts = (first : Bool) → pieces first 0 ts ≡ run_before (leading ts) (pieces (only_blanks first (bytes_of (leading ts))) 0 (trailing ts))
 
@@ -298,7 +298,7 @@ unfolding run_before resume
 resume_run rules included_meaning os [] ps s = grind (arith, run_nil, goes_on-nil)
 resume_run rules included_meaning os (t ∷ run) ps s = refl
 
--- in live text, a run comes to its expansion, and then what remains behind it
+-- in live text, a run comes to its expansion, and then what remains after it
 pub resumed_run : (rules : Rules) (os : List Progress) (first : Bool) (ts : List SourceToken) (s : State)
     → resumed rules (Live os) first ts s
     ≡ goes_on (leaves (run_outcome rules s (leading ts)) s)
@@ -324,7 +324,7 @@ unfolding leading trailing
 within_run (suc k) (t ∷ ts) h = within_by k t ts (directive_of t) refl h (λ g. within_run k ts g)
 within_run _ ts h = record { leads = refl; trails = refl; front = refl }
 
--- the flag of blanks behind so many tokens and then the others of a run
+-- the flag of blanks after so many tokens and then the others of a run
 flag_after : (first : Bool) (k : ℕ) (ts : List SourceToken)
     → only_blanks (only_blanks first (bytes_of (take k ts))) (bytes_of (drop k ts)) ≡ only_blanks first (bytes_of ts)
 flag_after first k ts =
@@ -333,7 +333,7 @@ flag_after first k ts =
     (sym (flat_map-append (λ (t : SourceToken). t.bytes) (take k ts) (drop k ts))
     ∙ ap (λ (us : List SourceToken). bytes_of us) (take-append-drop k ts))
 
--- in live text, where a run comes to an outcome and then the run behind its first tokens, so does what remains
+-- in live text, where a run comes to an outcome and then the run after its first tokens, so does what remains
 pub resumed_part : (rules : Rules) (os : List Progress) (first : Bool) (k : ℕ) (ts : List SourceToken) (s : State) (o : Outcome)
     → k ≤ length (leading ts)
     → run_outcome rules s (leading ts) ≡ and_then o (run_outcome rules s (drop k (leading ts)))
@@ -386,7 +386,7 @@ call_of_source size room ts = ap (call_of_scan token_role 0) (scan_leading size 
 -- Laws of live text, in any open conditionals: what remains of a source where a token stands in front that begins no directive,
 -- or a `define`. Nothing is lost of the state, so they hold in a nest of open sources too (`IncludedMoves`).
 
--- a token that writes bytes, and then what remains behind it
+-- a token that writes bytes, and then what remains after it
 pub resumed_writes : (rules : Rules) (os : List Progress) (first : Bool) (t : SourceToken) (ts : List SourceToken) (s : State) (x : List ℕ)
     → directive_of t ≡ None → Writes rules s t (gives x)
     → resumed rules (Live os) first (t ∷ ts) s ≡ after_bytes x (resumed rules (Live os) (only_blanks first t.bytes) ts s)
@@ -402,7 +402,7 @@ resumed_fails rules os first t ts s f e w =
     resumed_token rules os first t ts s (fails f) e w
     ∙ fails-goes_on f s (λ after. resumed rules (Live os) (only_blanks first t.bytes) ts after)
 
--- tokens that are copied give their bytes, and then what remains behind them
+-- tokens that are copied give their bytes, and then what remains after them
 pub resumed_copied : (rules : Rules) (os : List Progress) (first : Bool) (ts more : List SourceToken) (s : State)
     → list_all is_copied ts ≡ true
     → resumed rules (Live os) first (ts ++ more) s
@@ -449,7 +449,7 @@ copied_whole : (k : Kind) (x y : List ℕ) (line : ℕ)
 unfolding is_copied
 copied_whole k x y line = refl
 
--- one token that is copied, and then what remains behind it
+-- one token that is copied, and then what remains after it
 pub resumed_one_copied : (rules : Rules) (os : List Progress) (first : Bool) (t : SourceToken) (more : List SourceToken) (s : State)
     → is_copied t ≡ true
     → resumed rules (Live os) first (t ∷ more) s ≡ after_bytes t.bytes (resumed rules (Live os) (only_blanks first t.bytes) more s)

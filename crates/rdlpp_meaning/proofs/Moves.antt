@@ -1,4 +1,4 @@
--- The law that what remains at a directive is what the directive comes to, and then what remains behind it, whatever waits around its source.
+-- The law that what remains at a directive is what the directive comes to, and then what remains after it, whatever waits around its source.
 use Rattle.std.proofs.Common.{◌≡◌, ℕ, zero, suc, Bool, true, false, not, ◌||◌, ◌==◌, ◌-◌, List, [], ◌∷◌, ◌++◌, length, drop, if◌then◌else◌, append-nil, arith, refl, ap, ◌∙◌, Option, None, Some}
 use Rattle.std.specs.Str.{is_utf8}
 use Rattle.rdlpp_scan.specs.SourceTokens.{Sort, SourceToken}
@@ -16,11 +16,11 @@ use Rattle.rdlpp_meaning.proofs.Outcomes.{goes_on-assoc, goes_on-gives, goes_on-
 use Rattle.rdlpp_meaning.proofs.Skipping.{skips_token}
 use Rattle.rdlpp_meaning.specs.Moves.{Enters, Move, Moves, Passes, Stops, branching_move, by_move, closing_move, define_move, found_move, in_branch, include_move, line_move, move_of, moves_on, nest_moves, opening_move, single_move, skipped_move, turning_move, undef_move}
 
--- what remains behind a directive, as pieces
+-- what remains after a directive, as pieces
 abbrev after_pieces : Rules → List Piece → Place → State → Passage
 after_pieces rules rest place u = resume rules (included_meaning_of rules u.sources_left) place rest u
 
--- what remains where a construct in a single source comes to this, by what remains behind it: of an entered text the source goes on behind it
+-- what remains where a construct in a single source comes to this, by what remains after it: of an entered text the source goes on after it
 abbrev pub own_moves : Rules → Move → ℕ → State → (Place → State → Passage) → Passage
 own_moves rules m line s next = moves_on m line s next (λ os path text.
     goes_on (resumed rules (Live []) true (rules.tokens text) (at_start_of path s))
@@ -44,7 +44,7 @@ included_resumed rules path text s n left =
     ap (λ (k : ℕ). mean rules (included_meaning_of rules k) (parts_of (rules.tokens text)) (at_start_of path s)) e
     ∙ resumed_start rules (at_start_of path s) text
 
--- an `include` of a source that was found, and then what goes on behind it
+-- an `include` of a source that was found, and then what goes on after it
 includes_entered : (rules : Rules) (path text : List ℕ) (c : Command) (s : State) (n : ℕ) (next : State → Passage) → s.sources_left ≡ suc n
     → goes_on (includes rules (λ u x. mean rules (included_meaning_of rules n) (parts_of (rules.tokens x)) u) path text c s) next
     ≡ after_bytes (origin_line rules path 1) (goes_on (resumed rules (Live []) true (rules.tokens text) (at_start_of path s))
@@ -55,7 +55,7 @@ includes_entered rules path text c s n next left =
 
 -- the directives that stand by themselves, in live text
 module _ (rules : Rules) (c : Command) (os : List Progress) (rest : List Piece) (s : State) where
-  -- what remains behind one
+  -- what remains after one
   abbrev goes_past : State → Passage
   goes_past u = resume rules (included_meaning_of rules s.sources_left) (Live os) rest u
 
@@ -133,7 +133,7 @@ source_moves rules ws place first ts then_first us s line (Moves bytes new t) e 
 source_moves rules ws place first ts then_first us s line (Enters bytes os path text) e =
     grind (arith, after_bytes-goes_on, goes_on-assoc, goes_on-same)
 
--- what remains of a source, and then of those that wait, at a directive in front of its tokens is what it comes to, and then what remains behind it
+-- what remains of a source, and then of those that wait, at a directive in front of its tokens is what it comes to, and then what remains after it
 pub directive_moves : (rules : Rules) (ws : List Waiting) (place : Place) (d : Directive) (first : Bool) (t : SourceToken) (ts : List SourceToken) (s : State) → directive_of t ≡ Some d
     → let c = command_in_front d first t ts in
     all_resumed rules ws place first (t ∷ ts) s ≡ nest_moves rules ws (move_of rules c place s) t.line s (only_blanks first c.text) (after_directive d ts)

@@ -61,13 +61,13 @@ hidden-own texts x below = rw (next_is (suc (length below))) refl
 first-place : (k n : ℕ) → k ≡ 0 → cond (nat_lt k (suc n)) (Some k) None ≡ Some 0
 first-place k n e = rw (e, lt-ltb 0 (suc n) (omega arith)) refl
 
--- a place behind another, by whether there is one
+-- a place after another, by whether there is one
 next-by : (k n : ℕ) (found : Bool) → nat_lt k n ≡ found
     → cond (nat_lt (suc k) (suc n)) (Some (suc k)) None ≡ option_map (λ (i : ℕ). suc i) (cond found (Some k) None)
 next-by k n true e = let h = ltb-true k n e in rw (lt-ltb (suc k) (suc n) (omega (arith, h))) refl
 next-by k n false e = let h = ltb-false k n e in rw (le-ltb (suc k) (suc n) (omega (arith, h))) refl
 
--- a place behind another
+-- a place after another
 next-place : (k after n : ℕ) → after ≡ suc k
     → cond (nat_lt after (suc n)) (Some after) None ≡ option_map (λ (i : ℕ). suc i) (cond (nat_lt k n) (Some k) None)
 next-place k after n e = rw e (next-by k n (nat_lt k n) refl)
@@ -96,7 +96,7 @@ named-first f fs name e = first-place (prefix_len (λ (g : Formal). not (bytes_e
 unfoldable pub standing_of_place : {A : Type 0} → List Formal → List (List A) → ℕ → Standing A
 standing_of_place formals actuals place = standing_of (formal_at formals place) (slice_index_or actuals place [])
 
--- a place behind the first one
+-- a place after the first one
 place-after : {A : Type 0} (f : Formal) (fs : List Formal) (a : List A) (actuals : List (List A)) (place : Option ℕ)
     → option_map (standing_of_place (f ∷ fs) (a ∷ actuals)) (option_map (λ (i : ℕ). suc i) place)
     ≡ option_map (standing_of_place fs actuals) place
@@ -186,7 +186,7 @@ further a b h = omega (arith, h)
 pub formal-place : (formals : List Formal) (name : List ℕ) (n : ℕ) → length formals ≤ n → IsPlace n (formal_named formals name)
 formal-place formals name n h = grind (arith, nat_lt, ltb-true)
 
--- a range of a text behind some of its bytes
+-- a range of a text after some of its bytes
 pub range_after : (text : List ℕ) (from end n : ℕ) → n ≤ end - from → drop n (slice_range text from end) ≡ slice_range text (from + n) end
 range_after text from end n h =
     ap (λ (k : ℕ). drop n (take k (drop from text))) (whole from end n h)
@@ -209,12 +209,12 @@ first_kind texts x below = (token_of x.part.mode (open_bytes texts x below)).kin
 unfoldable pub first_bytes : Texts → Open → List Open → List ℕ
 first_bytes texts x below = take (token_of x.part.mode (open_bytes texts x below)).len (open_bytes texts x below)
 
--- the open text behind it
+-- the open text after it
 unfoldable pub first_after : Texts → Open → List Open → Open
 first_after texts x below =
     open_after x (token_of x.part.mode (open_bytes texts x below)).len (token_of x.part.mode (open_bytes texts x below)).next_mode
 
--- an open text behind some of its bytes is still open
+-- an open text after some of its bytes is still open
 pub following-open : (texts : Texts) (x : Open) (below : List Open) (n : ℕ) (mode : Mode) → AreOpen texts (x ∷ below)
     → AreOpen texts (open_after x n mode ∷ below)
 unfolding open_after
@@ -409,7 +409,7 @@ standing-found macros (Some x) k place name e = by x.kind e
     by OpenActual e = absurd (cc)
     by (OpenDefault id own) e = absurd (cc)
 
--- an open text has its formals behind some of its bytes
+-- an open text has its formals after some of its bytes
 pub following-formals : (macros : List Macro) (x : Open) (below : List Open) (k n : ℕ) (mode : Mode) → scope_formals macros (open_after x n mode ∷ below) k ≡ scope_formals macros (x ∷ below) k
 unfolding scope_open open_after
 following-formals macros x below k n mode = grind arith

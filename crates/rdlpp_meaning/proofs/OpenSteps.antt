@@ -44,7 +44,7 @@ first-inside : (text : List ℕ) (part : Part) → 0 < length (slice_range text 
     → (token_of part.mode (slice_range text part.from part.end)).len ≤ part.end - part.from
 first-inside text part some = grind (arith, token_of-part, length-take)
 
--- an open text of which there is a byte has the item of its first token, and then those behind it
+-- an open text of which there is a byte has the item of its first token, and then those after it
 first-items : (texts : Texts) (x : Open) (below : List Open) → 0 < length (open_bytes texts x below)
     → open_items texts x below
     ≡ item_at texts (x ∷ below) (open_scope x below) (first_token texts x below) ∷ open_items texts (first_after texts x below) below
@@ -68,12 +68,12 @@ pub left-walk : (rules : Rules) (s : State) (line depth : ℕ) (texts : Texts) (
 unfolding open_left
 left-walk rules s line depth texts x below = grind (arith, expand_walk)
 
--- an open text goes on behind some of its bytes in the text of the same macros
+-- an open text goes on after some of its bytes in the text of the same macros
 following-hidden : (texts : Texts) (x : Open) (below : List Open) (n : ℕ) (mode : Mode) → open_hide_set texts (open_after x n mode) below ≡ open_hide_set texts x below
 unfolding open_after open_scope hide_set
 following-hidden texts x below n mode = refl
 
--- what remains behind some bytes of the innermost open text
+-- what remains after some bytes of the innermost open text
 pub following-walk : (rules : Rules) (s : State) (line depth : ℕ) (texts : Texts) (x : Open) (below : List Open) (n : ℕ) (mode : Mode)
     → and_then (walk rules s (deeper_of rules s (room_in depth below)) (Some line) (open_hide_set texts x below) 0 (open_items texts (open_after x n mode) below))
     (open_left rules s line depth texts below)
@@ -116,7 +116,7 @@ formal-item texts opens k t bytes place new h is named stands =
     subst (λ (u : SourceToken). IsMarkOf texts opens new (item_at texts opens k u)) (sym is)
     (subst (λ (p : Option ℕ). StandsFor texts opens (scope_open opens k) k p (name_token bytes) (item_at texts opens k (name_token bytes))) named (name-stands texts opens k bytes h) new stands)
 
--- an open text is opened in the same way in front of another one behind some of its bytes, by what it is
+-- an open text is opened in the same way in front of another one after some of its bytes, by what it is
 same-by : (texts : Texts) (x : Open) (below : List Open) (n : ℕ) (mode : Mode) (part : Part) (parent : ℕ) (kind : OpenKind)
     → Arg (open_hide_set texts (record { part = part; parent = parent; kind = kind }) (x ∷ below)) (packed (open_items texts (record { part = part; parent = parent; kind = kind }) (x ∷ below)))
     ≡ Arg (open_hide_set texts (record { part = part; parent = parent; kind = kind }) (open_after x n mode ∷ below)) (packed (open_items texts (record { part = part; parent = parent; kind = kind }) (open_after x n mode ∷ below)))
@@ -124,7 +124,7 @@ unfolding open_after open_items item_at open_scope hide_set text_around scope_te
 same-by texts x below n mode part parent (OpenBody id parts) = refl
 same-by texts x below n mode part parent _ = refl
 
--- an open text is opened in the same way in front of another one behind some of its bytes
+-- an open text is opened in the same way in front of another one after some of its bytes
 following-mark : (texts : Texts) (x : Open) (below : List Open) (n : ℕ) (mode : Mode) (new : Open)
     → Arg (open_hide_set texts new (x ∷ below)) (packed (open_items texts new (x ∷ below)))
     ≡ Arg (open_hide_set texts new (open_after x n mode ∷ below)) (packed (open_items texts new (open_after x n mode ∷ below)))
@@ -136,7 +136,7 @@ first-named : (texts : Texts) (x : Open) (below : List Open) (kind : Kind) → f
 unfolding first_token
 first-named texts x below kind e = ap (λ (k : Kind). record { sort = Ordinary k; bytes = first_bytes texts x below; line = 0 }) e
 
--- what remains at the name of a formal: what it stands for, and then what is left behind it
+-- what remains at the name of a formal: what it stands for, and then what is left after it
 formal-walk : (rules : Rules) (s : State) (line depth : ℕ) (texts : Texts) (x : Open) (below : List Open) (place : ℕ) (new : Open)
     → AreOpen texts (x ∷ below) → 0 < length (open_bytes texts x below) → first_kind texts x below ≡ Name
     → formal_named (scope_formals texts.macros (x ∷ below) (open_scope x below)) (first_bytes texts x below) ≡ Some place
@@ -316,7 +316,7 @@ pub left-mode : (rules : Rules) (s : State) (line depth : ℕ) (texts : Texts) (
 unfolding open_left open_items part_tokens open_bytes open_after item_at open_scope hide_set
 left-mode rules s line depth texts x below n mode next e = grind arith
 
--- A usage in an open text, by the tokens behind its name: its fault, or the body that it opens.
+-- A usage in an open text, by the tokens after its name: its fault, or the body that it opens.
 
 -- a name has the role of text, whether it is marked or not
 name-role : (macro : List ℕ) (o : List (List ℕ)) (bytes : List ℕ) (line : ℕ) (standing : Option (Standing Item))
@@ -397,7 +397,7 @@ pub scope-text : (texts : Texts) (x : Open) (below : List Open) (n : ℕ) (mode 
 unfolding open_scope text_around scope_text open_after
 scope-text texts x below n mode h = grind (arith, next_is, text-around)
 
--- the tokens behind the first one of an open text
+-- the tokens after the first one of an open text
 unfoldable pub tokens_after : Texts → Open → List Open → List SourceToken
 tokens_after texts x below = part_tokens (text_around texts x.kind x.parent below) (first_after texts x below).part
 
@@ -407,7 +407,7 @@ following-items : (texts : Texts) (x : Open) (below : List Open)
 unfolding open_items tokens_after first_after open_after item_at open_scope
 following-items texts x below = refl
 
--- the items of an open text behind some of its bytes
+-- the items of an open text after some of its bytes
 following-part : (texts : Texts) (x : Open) (below : List Open) (n : ℕ) (mode : Mode)
     → map (item_at texts (x ∷ below) (open_scope x below)) (part_tokens (text_around texts x.kind x.parent below) (open_after x n mode).part) ≡ open_items texts (open_after x n mode) below
 unfolding open_items open_after item_at open_scope
@@ -468,7 +468,7 @@ actual-items : (texts : Texts) (x : Open) (below : List Open) (n : ℕ) (mode : 
 actual-items texts x below n mode parts h = grind (arith, items-parts, scope-text, scope-items)
 
 -- (4, 5) a usage that opens a macro of the table opens its body, with parts of the text in which its call is written as actuals, where
--- there is room: the tokens behind its call are those of a part
+-- there is room: the tokens after its call are those of a part
 pub step-usage : (rules : Rules) (s : State) (line depth : ℕ) (texts : Texts) (x : Open) (below : List Open) (id : ℕ) (parts : List Part) (used n : ℕ) (mode : Mode)
     → x.parent ≤ length below → 0 < length (open_bytes texts x below) → first_kind texts x below ≡ Back
     → first_usage rules s line texts x below ≡ Opens (macro_at texts.macros id) (map (part_tokens (text_around texts x.kind x.parent below)) parts) used

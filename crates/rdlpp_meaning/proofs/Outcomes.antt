@@ -49,23 +49,23 @@ pub and_then-gives_gives : (x y : List ℕ) (o : Outcome) → and_then (gives x)
 unfolding and_then gives
 and_then-gives_gives x y o = ap (λ (z : List ℕ). record { bytes = z; fault = o.fault }) (sym (append_assoc x y o.bytes))
 
--- nothing counts behind a fault
+-- nothing counts after a fault
 pub and_then-fails : (f : Report) (o : Outcome) → and_then (fails f) o ≡ fails f
 unfolding and_then fails
 and_then-fails f o = refl
 
--- an outcome with nothing behind it, by its fault
+-- an outcome with nothing after it, by its fault
 nil_by : (x : List ℕ) (f : Option Report)
     → and_then (record { bytes = x; fault = f }) (gives []) ≡ record { bytes = x; fault = f }
 unfolding and_then gives
 nil_by x (Some f) = refl
 nil_by x None = ap (λ (z : List ℕ). record { bytes = z; fault = None }) (append-nil x)
 
--- no bytes behind an outcome are nothing
+-- no bytes after an outcome are nothing
 pub and_then-nil : (o : Outcome) → and_then o (gives []) ≡ o
 and_then-nil o = nil_by o.bytes o.fault
 
--- the bytes of an outcome behind bytes
+-- the bytes of an outcome after bytes
 pub bytes-and_then_gives : (x : List ℕ) (o : Outcome) → (and_then (gives x) o).bytes ≡ x ++ o.bytes
 unfolding and_then gives
 bytes-and_then_gives x o = refl
@@ -79,7 +79,7 @@ unfolding goes_on leaves after_bytes
 on_leaves_by x (Some f) s g h e = refl
 on_leaves_by x None s g h e = ap (λ (p : Passage). after_bytes x p) e
 
--- only what goes on from its own state counts behind an outcome
+-- only what goes on from its own state counts after an outcome
 pub on_leaves : (o : Outcome) (s : State) (g h : State → Passage) → g s ≡ h s
     → goes_on (leaves o s) g ≡ goes_on (leaves o s) h
 on_leaves o s g h e = on_leaves_by o.bytes o.fault s g h e
@@ -125,7 +125,7 @@ pub goes_on-gives : (x : List ℕ) (s : State) (next : State → Passage) → go
 unfolding goes_on leaves gives
 goes_on-gives x s next = refl
 
--- nothing goes on behind a fault
+-- nothing goes on after a fault
 pub fails-goes_on : (f : Report) (s : State) (next : State → Passage) → goes_on (leaves (fails f) s) next ≡ leaves (fails f) s
 unfolding goes_on leaves fails
 fails-goes_on f s next = refl
@@ -141,7 +141,7 @@ unfolding after_bytes
 after_bytes-twice x y p =
     ap (λ (z : List ℕ). record { bytes = z; fault = p.fault; after = p.after }) (sym (append_assoc x y p.bytes))
 
--- bytes and a fault behind which nothing goes on
+-- bytes and a fault after which nothing goes on
 pub gives_fails-goes_on : (x : List ℕ) (f : Report) (s : State) (next : State → Passage)
     → goes_on (leaves (and_then (gives x) (fails f)) s) next ≡ after_bytes x (leaves (fails f) s)
 unfolding goes_on leaves and_then gives fails after_bytes
@@ -206,18 +206,18 @@ unfolding goes_on
 goes_on_by x (Some f) s g h e = refl
 goes_on_by x None s g h e = ap (λ (p : Passage). after_bytes x p) (e s)
 
--- what goes on alike from each state is alike behind a passage
+-- what goes on alike from each state is alike after a passage
 pub goes_on-same : (p : Passage) (g h : State → Passage) → ((t : State) → g t ≡ h t) → goes_on p g ≡ goes_on p h
 goes_on-same p g h e = goes_on_by p.bytes p.fault p.after g h e
 
--- what remains in live text behind a level, in these open conditionals
+-- what remains in live text after a level, in these open conditionals
 unfoldable pub rest_live : Rules → IncludedMeaning → List Progress → Level → State → Passage
 rest_live rules included_meaning [] l s = mean rules included_meaning (level_parts l) s
 rest_live rules included_meaning (o ∷ os) l s =
     goes_on (mean rules included_meaning (front_parts l) s) (λ a.
     goes_on (mean_branches rules included_meaning (further_branches l) o a) (λ b. rest_live rules included_meaning os (after_end l) b))
 
--- what remains in skipped text behind a level
+-- what remains in skipped text after a level
 unfoldable pub rest_skipped : Rules → IncludedMeaning → ℕ → Progress → List Progress → Level → State → Passage
 rest_skipped rules included_meaning zero o os l s =
     goes_on (leaves (skip s (front_parts l)) s) (λ a.
@@ -226,7 +226,7 @@ rest_skipped rules included_meaning (suc n) o os l s =
     goes_on (leaves (skip s (front_parts l)) s) (λ a.
     goes_on (leaves (skip_branches a (further_branches l)) a) (λ b. rest_skipped rules included_meaning n o os (after_end l) b))
 
--- what remains behind a level, from a place
+-- what remains after a level, from a place
 unfoldable pub rest : Rules → IncludedMeaning → Place → Level → State → Passage
 rest rules included_meaning (Live os) l s = rest_live rules included_meaning os l s
 rest rules included_meaning (Skipped n o os) l s = rest_skipped rules included_meaning n o os l s
@@ -243,7 +243,7 @@ unfolding further_branches in_front
 branches-in_front p (Last ps) = refl
 branches-in_front p _ = refl
 
--- nor of what is behind the end
+-- nor of what is after the end
 following-in_front : (p : Part) (l : Level) → after_end (in_front p l) ≡ after_end l
 unfolding after_end in_front
 following-in_front p (Last ps) = refl
@@ -280,7 +280,7 @@ skipped_nothing rules included_meaning (suc n) o os s = skipped_nothing rules in
 Resumes : Rules → IncludedMeaning → List Piece → Type 0
 Resumes rules included_meaning ps = (place : Place) (s : State) → resume rules included_meaning place ps s ≡ rest rules included_meaning place (level_of ps) s
 
--- what goes on behind either side of a test goes on behind the test
+-- what goes on after either side of a test goes on after the test
 by_test-goes_on : (t : Test) (c : Command) (s : State) (live skipped live' skipped' next : State → Passage)
     → live s ≡ goes_on (live' s) next → skipped s ≡ goes_on (skipped' s) next
     → by_test t c s live skipped ≡ goes_on (by_test t c s live' skipped') next
@@ -330,14 +330,14 @@ skipped_deeper : (rules : Rules) (included_meaning : IncludedMeaning) (n : ℕ) 
 unfolding rest_skipped
 skipped_deeper rules included_meaning n o os c l s = grind (arith, on_leaves, leaves-and_then)
 
--- a passage of a part in live text, and what resumes behind it
+-- a passage of a part in live text, and what resumes after it
 live_step : (rules : Rules) (included_meaning : IncludedMeaning) (os : List Progress) (p : Part) (ps : List Piece) (s : State) → Resumes rules included_meaning ps
     → goes_on (mean_part rules included_meaning p s) (λ a. resume rules included_meaning (Live os) ps a)
     ≡ rest_live rules included_meaning os (in_front p (level_of ps)) s
 unfolding Resumes rest
 live_step rules included_meaning os p ps s r = grind (arith, goes_on-same, live_in_front)
 
--- a skipped part, and what resumes behind it
+-- a skipped part, and what resumes after it
 skipped_step : (rules : Rules) (included_meaning : IncludedMeaning) (n : ℕ) (o : Progress) (os : List Progress) (p : Part) (ps : List Piece) (s : State) → Resumes rules included_meaning ps
     → goes_on (leaves (skip_part s p) s) (λ a. resume rules included_meaning (Skipped n o os) ps a)
     ≡ rest_skipped rules included_meaning n o os (in_front p (level_of ps)) s
@@ -430,7 +430,7 @@ pub output_overlong : (rules : Rules) (macros : List Macro) (sources conditions 
 unfolding output
 output_overlong rules macros sources conditions path = refl
 
--- Plain text is its own output; an included text stands between what is before and behind its `include`.
+-- Plain text is its own output; an included text stands between what is before and after its `include`.
 
 -- a kind of ordinary text is copied
 plain_kind_copied : (k : Kind) (bytes : List ℕ) (line : ℕ) → is_plain_kind k ≡ true

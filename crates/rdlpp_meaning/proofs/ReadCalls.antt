@@ -32,7 +32,7 @@ use Rattle.rdlpp_meaning.proofs.LiveText.{call_of_source}
 
 -- A scan that closes cuts its things into what passes before the `(`, what stands between the parentheses, and the rest.
 
--- behind the `(`, a thing that is passed is a dropped one, one that is kept is text, and the end is a `)` outside further openers
+-- after the `(`, a thing that is passed is a dropped one, one that is kept is text, and the end is a `)` outside further openers
 unfoldable TurnFacts : Role → ℕ → Turn → Type 0
 TurnFacts r k Passes = (is_kept r ≡ false) × (is_call_text r ≡ true)
 TurnFacts r k Keeps = (is_kept r ≡ true) × (is_call_text r ≡ true)
@@ -67,7 +67,7 @@ turn_facts Cut k fits = fitting Cut k fits refl refl
 turn_facts Text k fits = fitting Text k fits refl refl
 turn_facts _ k fits = (refl, refl)
 
--- how a scan that closes lies in the things behind the `(`
+-- how a scan that closes lies in the things after the `(`
 pub record IsClosedInside {A : Type 0} (role : A → Role) (k : ℕ) (xs kept : List A) (used : ℕ) : Type 0 where
   pub inner : List A
   pub closer : A
@@ -90,7 +90,7 @@ onto_closed front _ kept used e = absurd (cc)
 closed_kept : {A : Type 0} (ks kept : List A) (n used : ℕ) → Closed ks n ≡ Closed kept used → (ks ≡ kept) × (n ≡ used)
 closed_kept ks kept n used e = (cc, cc)
 
--- what is behind the things of a call
+-- what is after the things of a call
 pub after_cut : {A : Type 0} (lead : List A) (opener : A) (inner : List A) (closer : A) (following : List A)
     → drop (length lead + (length inner + 2)) (lead ++ opener ∷ (inner ++ closer ∷ following)) ≡ following
 after_cut {A = A} lead opener inner closer following =
@@ -98,7 +98,7 @@ after_cut {A = A} lead opener inner closer following =
     let n : length inner + 2 ≡ suc (length inner + 1) = omega arith in
     grind (arith, drop-append-add)
 
--- the scan behind the first thing before the `(`
+-- the scan after the first thing before the `(`
 unfoldable after_lead : {A : Type 0} → Role → Scanned A → Scanned A → Scanned A
 after_lead Start before inside = inside
 after_lead r before inside = before
@@ -182,7 +182,7 @@ inside_by {A = A} role k x xs kept used Closes s facts rest e =
 inside_by role k x xs kept used (TurnFault f) s facts rest e = absurd (cc)
 inside_by role k x xs kept used (Breaks f line) s facts rest e = absurd (cc)
 
--- how a scan from behind the `(` that closes lies in its things
+-- how a scan from after the `(` that closes lies in its things
 pub closed_inside : {A : Type 0} (role : A → Role) (size : A → ℕ) (k room : ℕ) (xs kept : List A) (used : ℕ)
     → scan role size (Inside k) room xs ≡ Closed kept used → IsClosedInside role k xs kept used
 unfolding scan turn call_state_after room_after
@@ -283,14 +283,14 @@ unfolding turn_fitting read_by part_kept onto_kept
 broken_in_parts true true f line part whole t ts one other = refl
 broken_in_parts _ _ f line part whole t ts one other = refl
 
--- a broken string and another broken token count alike behind the `(`
+-- a broken string and another broken token count alike after the `(`
 either_breaks : (c : Bool) (f : FaultKind) (line k : ℕ) (fits : Bool)
     → turn_inside (cond c (Ends f line) (Stops f line)) k fits ≡ turn_fitting fits (Breaks f line)
 unfolding turn_inside
 either_breaks true f line k fits = refl
 either_breaks false f line k fits = refl
 
--- a broken string or comment behind the `(`
+-- a broken string or comment after the `(`
 broken_inside : (b : Breach) (bytes : List ℕ) (line k : ℕ) (fits : Bool) → is_part_breach b ≡ true
     → turn_inside (broken_role b bytes line) k fits ≡ turn_fitting fits (Breaks (breach_kind b) line)
 unfolding is_part_breach broken_role
@@ -317,7 +317,7 @@ broken_parts : (f : FaultKind) (line room : ℕ) (part : List ℕ) (whole t : So
     ≡ part_kept (nat_le (length part) room) part (read_by (turn_fitting (nat_le (length t.bytes) (room - length part)) (Breaks f line)) t ts other)
 broken_parts f line room part whole t ts one other e = grind (arith, length-append, nat_le, fits_in_parts, broken_in_parts)
 
--- behind the `(`, a string or a comment may be read in parts, by its sort: a part that fits is kept, and the rest is read with
+-- after the `(`, a string or a comment may be read in parts, by its sort: a part that fits is kept, and the rest is read with
 -- what is left of the room; one that doesn't is one byte too many
 part_by : (p : Bool) (k room line own : ℕ) (part : List ℕ) (sort : Sort) (bytes : List ℕ) (ts : List SourceToken) → is_part_sort sort ≡ true
     → read (Inside k) p room (with_part part line (record { sort = sort; bytes = bytes; line = own }) ∷ ts)
@@ -347,7 +347,7 @@ part_by p k room line own part Definition bytes ts e = absurd (cc)
 part_by p k room line own part Renumbering bytes ts e = absurd (cc)
 part_by p k room line own part (Ordinary kind) bytes ts e = absurd (cc)
 
--- behind the `(`, a string or a comment may be read in parts: a part that fits is kept, and the rest is read with what is left
+-- after the `(`, a string or a comment may be read in parts: a part that fits is kept, and the rest is read with what is left
 -- of the room; one that doesn't is one byte too many
 pub part_inside : (p : Bool) (k room line : ℕ) (part : List ℕ) (t : SourceToken) (ts : List SourceToken) → is_part_sort t.sort ≡ true
     → read (Inside k) p room (with_part part line t ∷ ts) ≡ part_kept (nat_le (length part) room) part (read (Inside k) true (room - length part) (t ∷ ts))
@@ -523,8 +523,8 @@ pub read_stopped : (room : ℕ) (ts : List SourceToken) (f : FaultKind) (line : 
     → call_of token_role kept room (leading ts) ≡ CallBreakFault f line
 read_stopped room ts f line e = grind (arith, call_of_source, stopped_reading, read_is_scan)
 
--- a call in a source whose reading closed: the kept bytes have its parts, but for lines, a call keeps all their tokens, and behind it
--- are the tokens behind those that it took
+-- a call in a source whose reading closed: the kept bytes have its parts, but for lines, a call keeps all their tokens, and after it
+-- are the tokens after those that it took
 pub record IsReadCall (room : ℕ) (ts : List SourceToken) (bytes : List ℕ) (following : List SourceToken) : Type 0 where
   pub used : ℕ
   pub call : map_call unlined (call_of token_role kept room (leading ts)) ≡ call_of_scan token_role 0 (Closed (body_tokens bytes) used)

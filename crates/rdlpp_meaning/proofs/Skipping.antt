@@ -45,7 +45,7 @@ skipped_joined rules included_meaning n p os t o (Opening c ∷ ps) s w = skippe
 skipped_joined rules included_meaning n p os t o (Branching c ∷ ps) s w = skipped_alone rules included_meaning n p os t o (Branching c ∷ ps) s w
 skipped_joined rules included_meaning n p os t o (Closing c ∷ ps) s w = skipped_alone rules included_meaning n p os t o (Closing c ∷ ps) s w
 
--- a token that is skipped, and then what remains behind it
+-- a token that is skipped, and then what remains after it
 pub skipped_token : (rules : Rules) (n : ℕ) (p : Progress) (os : List Progress) (first : Bool) (t : SourceToken) (ts : List SourceToken) (s : State) (o : Outcome)
     → directive_of t ≡ None → SkipsAs s t o
     → resumed rules (Skipped n p os) first (t ∷ ts) s
@@ -84,7 +84,7 @@ pub skipped_unclosed : (rules : Rules) (n : ℕ) (o : Progress) (os : List Progr
 unfolding resumed resume pieces
 skipped_unclosed rules n o os first s = refl
 
--- The words of the directives that have no token of their own: such a word has no LF, and behind it more than blanks stand on its line.
+-- The words of the directives that have no token of their own: such a word has no LF, and after it more than blanks stand on its line.
 
 -- a text that is no more than a word
 pub record IsWord (bytes : List ℕ) : Type 0 where
@@ -262,7 +262,7 @@ argument_passed rules n p os d ts s flag =
     ∙ ap (λ (x : List ℕ). after_bytes (line_ends_of x) (resumed rules (Skipped n p os) (only_blanks flag x) (drop k ts) s))
     (argument_takes d ts)
 
--- a directive that is skipped gives the LF bytes of its own token, and then comes what remains behind that
+-- a directive that is skipped gives the LF bytes of its own token, and then comes what remains after that
 pub skips_token : (rules : Rules) (n : ℕ) (p : Progress) (os : List Progress) (d : Directive) (first : Bool) (t : SourceToken) (ts : List SourceToken) (s : State)
     → skips rules (Skipped n p os) d first t ts s
     ≡ after_bytes (line_ends_of t.bytes) (resumed rules (Skipped n p os) (only_blanks first t.bytes) ts s)
@@ -346,7 +346,7 @@ one_skipped_by rules n p os first Renumbering bytes line ts s e =
     skipped_directive rules n p os Line first (record { sort = Renumbering; bytes = bytes; line = line }) ts s refl refl
 one_skipped_by rules n p os first (Broken b) bytes line ts s e = cc
 
--- a token that is skipped gives its LF bytes, and then comes what remains behind it
+-- a token that is skipped gives its LF bytes, and then comes what remains after it
 pub resumed_skipped_one : (rules : Rules) (n : ℕ) (p : Progress) (os : List Progress) (first : Bool) (t : SourceToken) (ts : List SourceToken) (s : State)
     → is_skipped t ≡ true
     → resumed rules (Skipped n p os) first (t ∷ ts) s
@@ -362,7 +362,7 @@ stretch_passed rules n p os (t ∷ ts) more s e =
     (λ first. resumed_skipped_one rules n p os first t (ts ++ more) s (and_parts (is_skipped t) (list_all is_skipped ts) e).0)
     (stretch_passed rules n p os ts more s (and_parts (is_skipped t) (list_all is_skipped ts) e).1)
 
--- a stretch of skipped text gives its LF bytes, and then comes what remains behind it, in as many open conditionals
+-- a stretch of skipped text gives its LF bytes, and then comes what remains after it, in as many open conditionals
 pub resumed_skipped : (rules : Rules) (n : ℕ) (p : Progress) (os : List Progress) (first : Bool) (ts more : List SourceToken) (s : State)
     → list_all is_skipped ts ≡ true
     → resumed rules (Skipped n p os) first (ts ++ more) s

@@ -27,7 +27,7 @@ use Rattle.rdlpp_meaning.specs.declared.fault.FaultKind.TheVariants.{ArgumentCou
 use Rattle.rdlpp_meaning.proofs.LiveText.{deeper_of, expand_walk, leading_text, resumed_part, resumed_run, run_refused, usage_text, usage_walk, usage_walks}
 use Rattle.rdlpp_meaning.proofs.Outcomes.{fails-goes_on}
 
--- A usage takes at most what stands behind its name.
+-- A usage takes at most what stands after its name.
 
 -- a scan takes at most so many things
 unfoldable pub TakesUpTo : {A : Type 0} → ℕ → Scanned A → Type 0
@@ -97,18 +97,18 @@ module _ {A : Type 0} (rules : Rules) (reads : Reads A) (line : ℕ) (name : Lis
   found-uses o None = tt
   found-uses o (Some m) = choice-uses (length xs) (list_any (bytes_eq name) o) _ _ tt (formals-use m m.formals)
 
-  -- a usage takes at most all things behind its name
+  -- a usage takes at most all things after its name
   usage-uses : (s : State) (o : List (List ℕ)) → UsesUpTo (length xs) (usage_of rules s reads line o name xs)
   unfolding usage_of UsesUpTo
   usage-uses s o = choice-uses (length xs) (is_reserved name) _ _ tt (found-uses o (macro_named s.macros name))
 
--- one that opens a macro takes at most all things behind its name
+-- one that opens a macro takes at most all things after its name
 pub usage_within : {A : Type 0} (rules : Rules) (s : State) (reads : Reads A) (line : ℕ) (o : List (List ℕ)) (name : List ℕ) (xs : List A) (m : Macro) (actuals : List (List A)) (used : ℕ)
     → usage_of rules s reads line o name xs ≡ Opens m actuals used → used ≤ length xs
 unfolding UsesUpTo
 usage_within rules s reads line o name xs m actuals used e = subst (UsesUpTo (length xs)) e (usage-uses rules reads line name xs s o)
 
--- The law of a usage in a source: its expansion, and then what remains behind its call.
+-- The law of a usage in a source: its expansion, and then what remains after its call.
 
 -- items that are passed over are dropped
 pub walk_skip : (rules : Rules) (s : State) (deeper : ℕ → List (List ℕ) → List Item → Outcome) (line_or_text : Option ℕ) (o : List (List ℕ)) (k : ℕ) (xs : List Item)
@@ -118,7 +118,7 @@ walk_skip rules s deeper line_or_text o (suc k) (Written t ∷ xs) = walk_skip r
 walk_skip rules s deeper line_or_text o (suc k) (Arg p g ∷ xs) = walk_skip rules s deeper line_or_text o k xs
 walk_skip rules s deeper line_or_text o _ xs = refl
 
--- a run that begins with a usage is what the usage opens, and then the run behind its call
+-- a run that begins with a usage is what the usage opens, and then the run after its call
 run_usage : (rules : Rules) (s : State) (name : List ℕ) (line : ℕ) (us : List SourceToken) (m : Macro) (actuals : List (List Item)) (used : ℕ)
     → usage_of rules s (item_reads None) line [] name (map Written us) ≡ Opens m actuals used
     → run_outcome rules s (usage_token name line ∷ us)
@@ -126,7 +126,7 @@ run_usage : (rules : Rules) (s : State) (name : List ℕ) (line : ℕ) (us : Lis
 unfolding run_outcome usage_walk
 run_usage rules s name line us m actuals used e = grind (arith, expand_walk, usage_walks, walk_skip, drop-map)
 
--- in live text, a usage that opens a macro comes to what its body expands to, and then what remains behind its call
+-- in live text, a usage that opens a macro comes to what its body expands to, and then what remains after its call
 pub resumed_usage : (rules : Rules) (os : List Progress) (first : Bool) (name : List ℕ) (line : ℕ) (ts : List SourceToken) (s : State)
     (m : Macro) (actuals : List (List Item)) (used : ℕ)
     → is_reserved name ≡ false
@@ -225,7 +225,7 @@ spaces-map : {A B : Type 0} (role : A → Role) (role' : B → Role) (f : A → 
 spaces-map role role' f keeps [] = refl
 spaces-map role role' f keeps (x ∷ xs) = rw (keeps x, spaces-map role role' f keeps xs) refl
 
--- what is behind the blank things in front
+-- what is after the blank things in front
 after_leading_space-map : {A B : Type 0} (role : A → Role) (role' : B → Role) (f : A → B) → ((x : A) → role' (f x) ≡ role x) → (xs : List A)
     → after_leading_space role' (map f xs) ≡ map f (after_leading_space role xs)
 unfolding after_leading_space
@@ -343,7 +343,7 @@ source-usage rules s line name ts = usage-map source_reads (item_reads None) Wri
 
 -- The law of a usage in a source by its tokens alone: it expands the body of its macro, or ends the output.
 
--- in live text, a usage that opens a macro comes to what the items of its body expand to, and then what remains behind its call
+-- in live text, a usage that opens a macro comes to what the items of its body expand to, and then what remains after its call
 pub resumed_opens : (rules : Rules) (os : List Progress) (first : Bool) (name : List ℕ) (line : ℕ) (ts : List SourceToken) (s : State)
     (d : ℕ) (m : Macro) (actuals : List (List SourceToken)) (used : ℕ)
     → is_reserved name ≡ false → rules.depth ≡ suc d

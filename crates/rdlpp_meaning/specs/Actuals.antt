@@ -30,7 +30,7 @@ map_call f (CallFault k) = CallFault k
 map_call f (CallBreakFault k line) = CallBreakFault k line
 map_call f (Bound first further used) = Bound (map f first) (map (map f) further) used
 
--- the level of openers behind a thing (source: this project's profile)
+-- the level of openers after a thing (source: this project's profile)
 unfoldable pub level_after : Role → ℕ → ℕ
 level_after Start k = suc k
 level_after Up k = suc k

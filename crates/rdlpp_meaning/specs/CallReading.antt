@@ -13,7 +13,7 @@ use Rattle.rdlpp_meaning.specs.CallScan.{CallState, Turn, Passes, Keeps, Closes,
 use Rattle.rdlpp_meaning.specs.Expansion.{bytes_of}
 
 -- what reading a call comes to: a fault of its own, that of a broken token at its line, or the bytes that it keeps and the
--- tokens behind its `)` (source: this project's profile)
+-- tokens after its `)` (source: this project's profile)
 pub data Reading : Type 0 where
   ReadRefused : FaultKind → Reading
   ReadStopped : FaultKind → ℕ → Reading
@@ -55,7 +55,7 @@ read at part room (t ∷ ts) =
     read_by (turn at r (nat_le (length t.bytes) room)) t ts
     (read (call_state_after at r) false (room_after at room r (length t.bytes)) ts)
 
--- a scan of tokens as reading: the bytes of what it keeps, and the tokens behind what it takes
+-- a scan of tokens as reading: the bytes of what it keeps, and the tokens after what it takes
 unfoldable pub reading_of : List SourceToken → Scanned SourceToken → Reading
 reading_of ts (ScanFault f) = ReadRefused f
 reading_of ts (ScanBreakFault f line) = ReadStopped f line

@@ -1,4 +1,4 @@
--- A call behind the name of its macro: its scan from the left, a thing at a turn, and the parts of what the scan keeps.
+-- A call after the name of its macro: its scan from the left, a thing at a turn, and the parts of what the scan keeps.
 -- A definition that names no source is this project's own.
 use Rattle.std.specs.Prelude.{◌≡◌, ℕ, zero, suc, ◌+◌, ◌-◌, Bool, true, false, nat_le, List, [], ◌∷◌, ◌++◌, length, filter, All, None, Some}
 use Rattle.rdlpp_scan.specs.SourceTokens.{SourceToken}
@@ -7,7 +7,7 @@ use Rattle.rdlpp_meaning.specs.declared.fault.FaultKind.TheVariants.{ArgumentsMi
 use Rattle.rdlpp_meaning.specs.Actuals.{Role, Space, Dropped, KeptComment, Start, End, Cut, Halt, Ends, Stops, Call, CallFault, CallBreakFault, Bound, level_after, kept_size, token_role}
 use Rattle.rdlpp_meaning.specs.Parts.{directive_of}
 
--- where the scan of a call stands: before its `(`, or behind it at a level of openers (source: this project's profile)
+-- where the scan of a call stands: before its `(`, or after it at a level of openers (source: this project's profile)
 pub data CallState : Type 0 where
   Before : CallState
   Inside : ℕ → CallState
@@ -33,7 +33,7 @@ unfoldable pub turn_fitting : Bool → Turn → Turn
 turn_fitting true t = t
 turn_fitting false t = TurnFault ArgumentBytes
 
--- what the scan does behind the `(`, at a level of openers, at a thing of a role that fits what may be kept or not (source:
+-- what the scan does after the `(`, at a level of openers, at a thing of a role that fits what may be kept or not (source:
 -- this project's profile)
 unfoldable pub turn_inside : Role → ℕ → Bool → Turn
 turn_inside End zero fits = Closes
@@ -48,17 +48,17 @@ unfoldable pub turn : CallState → Role → Bool → Turn
 turn Before r fits = turn_before r
 turn (Inside k) r fits = turn_inside r k fits
 
--- where the scan stands behind a thing before the `(`
+-- where the scan stands after a thing before the `(`
 unfoldable pub call_state_after_lead : Role → CallState
 call_state_after_lead Start = Inside 0
 call_state_after_lead r = Before
 
--- where the scan stands behind a thing
+-- where the scan stands after a thing
 unfoldable pub call_state_after : CallState → Role → CallState
 call_state_after Before r = call_state_after_lead r
 call_state_after (Inside k) r = Inside (level_after r k)
 
--- how many bytes may be kept behind a thing of a role and a size
+-- how many bytes may be kept after a thing of a role and a size
 unfoldable pub room_after : CallState → ℕ → Role → ℕ → ℕ
 room_after Before room r n = room
 room_after (Inside k) room r n = room - kept_size r n
@@ -122,7 +122,7 @@ call_of_scan role k (ScanFault f) = CallFault f
 call_of_scan role k (ScanBreakFault f line) = CallBreakFault f line
 call_of_scan role k (Closed kept used) = Bound (split role k kept).first (split role k kept).further used
 
--- a call behind the name of its macro, with room for so many kept bytes (source: this project's profile)
+-- a call after the name of its macro, with room for so many kept bytes (source: this project's profile)
 abbrev pub call_of : {A : Type 0} → (A → Role) → (A → ℕ) → ℕ → List A → Call A
 call_of role size room xs = call_of_scan role 0 (scan role size Before room xs)
 
@@ -142,7 +142,7 @@ is_call_text (Ends f line) = false
 is_call_text (Stops f line) = false
 is_call_text r = true
 
--- the level of openers behind things
+-- the level of openers after things
 unfoldable pub level_of_things : {A : Type 0} → (A → Role) → ℕ → List A → ℕ
 level_of_things role k [] = k
 level_of_things role k (x ∷ xs) = level_of_things role (level_after (role x) k) xs

@@ -17,12 +17,12 @@ use Rattle.rdlpp_meaning.specs.Substitution.{substituted}
 use Rattle.rdlpp_meaning.specs.CallScan.{call_of}
 
 -- what a usage comes to: a fault with its word and line, or a macro whose body is opened, its actuals, and how many things
--- the usage took behind its name (source: this project's profile)
+-- the usage took after its name (source: this project's profile)
 pub data Usage (A : Type 0) : Type 0 where
   UsageFault : FaultKind → List ℕ → ℕ → Usage A
   Opens : Macro → List (List A) → ℕ → Usage A
 
--- the name behind a backquote
+-- the name after a backquote
 unfoldable pub name_of : SourceToken → List ℕ
 name_of t = drop 1 t.bytes
 
@@ -56,7 +56,7 @@ usage_of_macro rules reads line o name xs m =
     if list_any (bytes_eq name) o then UsageFault RecursiveMacro name line
     else usage_of_formals rules reads line name xs m m.formals
 
--- a usage of a name, with the things behind it (source: this project's profile)
+-- a usage of a name, with the things after it (source: this project's profile)
 unfoldable pub usage_of : {A : Type 0} → Rules → State → Reads A → ℕ → List (List ℕ) → List ℕ → List A → Usage A
 usage_of rules s reads line o name xs =
     if is_reserved name then UsageFault DirectiveInText name line

@@ -1,4 +1,4 @@
--- The meaning of parts: what they write, the state behind them, and the fault that ends them.
+-- The meaning of parts: what they write, the state after them, and the fault that ends them.
 -- A definition that names no source is this project's own.
 use Rattle.std.specs.Prelude.{◌≡◌, ℕ, zero, suc, ◌+◌, ◌-◌, ◌*◌, Bool, true, false, not, ◌&&◌, ◌||◌, ◌==◌, nat_le, List, [], ◌∷◌, ◌++◌, length, take, drop, bytes_eq, slice_index, fold, Option, None, Some, codes, decimal, is_some, if◌then◌else◌}
 use Rattle.std.specs.List.{prefix_len}
@@ -16,7 +16,7 @@ use Rattle.rdlpp_meaning.specs.State.{Defined, Accepted, DefinitionFault, Lookup
 use Rattle.rdlpp_meaning.specs.Expansion.{run_outcome}
 use Rattle.rdlpp_meaning.specs.Parts.{Command, Parts, Nothing, More, Part, Text, Alone, Stray, Conditional, Branches, Unclosed, Closed, Branch, line_ends_of, parts_of}
 
--- what parts come to: bytes, the fault that ends them, if one does, and the state behind them (source: this project's profile)
+-- what parts come to: bytes, the fault that ends them, if one does, and the state after them (source: this project's profile)
 pub record Passage : Type 0 where
   pub bytes : List ℕ
   pub fault : Option Report
@@ -34,7 +34,7 @@ outcome p = record { bytes = p.bytes; fault = p.fault }
 unfoldable pub after_bytes : List ℕ → Passage → Passage
 after_bytes bytes p = record { bytes = bytes ++ p.bytes; fault = p.fault; after = p.after }
 
--- a passage and what goes on from its state, which counts for nothing behind a fault (source: this project's profile)
+-- a passage and what goes on from its state, which counts for nothing after a fault (source: this project's profile)
 unfoldable pub goes_on : Passage → (State → Passage) → Passage
 goes_on p next = elim p.fault [ None ↦ after_bytes p.bytes (next p.after) | Some f ↦ p ]
 
@@ -112,7 +112,7 @@ origin_line rules name line =
 unfoldable pub at_start_of : List ℕ → State → State
 at_start_of path s = record s { path = path; name = path; shift = no_shift; sources_left = s.sources_left - 1 }
 
--- the state behind an included text: its macros, in the file that included it
+-- the state after an included text: its macros, in the file that included it
 unfoldable pub back_in : State → State → State
 back_in s after = record s { macros = after.macros }
 
@@ -152,7 +152,7 @@ unfoldable pub includes_given : Rules → IncludedMeaning → Option (List ℕ) 
 includes_given rules included_meaning None c s = refusal IncludeName [] c s
 includes_given rules included_meaning (Some string) c s = includes_named rules included_meaning (unquoted string) c s
 
--- where a string ends that begins behind its quote: the place of its closing quote, if it has one; the flag says that a
+-- where a string ends that begins after its quote: the place of its closing quote, if it has one; the flag says that a
 -- backslash takes the first byte along (source: IEEE 1364-2001, strings)
 unfoldable pub quote_place : Bool → List ℕ → Option ℕ
 quote_place taken [] = None
@@ -168,7 +168,7 @@ past_blank_bytes bytes = drop (prefix_len is_blank bytes) bytes
 unfoldable pub digits_value : List ℕ → ℕ
 digits_value digits = fold (λ n b. n * 10 + (b - 48)) 0 digits
 
--- whether the rest of a `line` behind its name is a level: `0`, `1` or `2`, and blanks up to the line's end (source: IEEE 1364-2001, `line`)
+-- whether the rest of a `line` after its name is a level: `0`, `1` or `2`, and blanks up to the line's end (source: IEEE 1364-2001, `line`)
 unfoldable pub is_level : List ℕ → Bool
 is_level bytes =
     let following = past_blank_bytes (drop 1 bytes) in
@@ -180,7 +180,7 @@ pub record Renumbered : Type 0 where
   pub number : ℕ
   pub name : List ℕ
 
--- the number and the name of a `line` by what stands behind its number (source: IEEE 1364-2001, `line`)
+-- the number and the name of a `line` by what stands after its number (source: IEEE 1364-2001, `line`)
 unfoldable pub renumbered_name : ℕ → List ℕ → Option Renumbered
 renumbered_name number bytes =
     if slice_index bytes 0 == 34 then elim (quote_place false (drop 1 bytes)) [
@@ -264,7 +264,7 @@ opening c s = opening_within s.conditions_left (name_test (wants_defined c.word)
 unfoldable pub in_conditional : State → State
 in_conditional s = record s { conditions_left = s.conditions_left - 1 }
 
--- the state behind a conditional
+-- the state after a conditional
 unfoldable pub past_conditional : State → State
 past_conditional s = record s { conditions_left = suc s.conditions_left }
 
@@ -284,7 +284,7 @@ turn o c s =
     else (if is_else c.word then Holds (not o.taken)
     else (if o.taken then Holds false else name_test true (macro_name c) s))
 
--- an open conditional behind a branch
+-- an open conditional after a branch
 unfoldable pub turned : Progress → Command → Bool → Progress
 turned o c live = record { line = o.line; taken = o.taken || live; closing = is_else c.word }
 
@@ -292,7 +292,7 @@ turned o c live = record { line = o.line; taken = o.taken || live; closing = is_
 unfoldable pub unclosed : Progress → State → Passage
 unclosed o s = leaves (fails (record { kind = OpenConditional; name = s.name; line = o.line; word = [] })) s
 
--- what parts write, the state behind them, and the fault that ends them (source: IEEE 1364-2001, compiler directives)
+-- what parts write, the state after them, and the fault that ends them (source: IEEE 1364-2001, compiler directives)
 unfoldable mutual
   pub mean : Rules → IncludedMeaning → Parts → State → Passage
   mean rules included_meaning Nothing s = leaves (gives []) s

@@ -1,4 +1,4 @@
--- What a directive comes to where it stands: its fault, what it writes and the place and the state behind it, or the text that is entered.
+-- What a directive comes to where it stands: its fault, what it writes and the place and the state after it, or the text that is entered.
 -- A definition that names no source is this project's own.
 use Rattle.std.specs.Prelude.{◌≡◌, ℕ, zero, suc, Bool, true, false, not, ◌||◌, ◌==◌, List, [], ◌∷◌, ◌++◌, length, drop, Option, None, Some, if◌then◌else◌}
 use Rattle.std.specs.Str.{is_utf8}
@@ -20,20 +20,20 @@ unfoldable pub in_branch : Bool → Progress → List Progress → Place
 in_branch true o os = Live (o ∷ os)
 in_branch false o os = Skipped 0 o os
 
--- what a construct comes to: its fault, of a kind and about a word; the bytes that it writes, and the place and the state behind it; or the
--- bytes that it writes, and the text that is entered behind them: the conditionals that are open around it, its path and its bytes
+-- what a construct comes to: its fault, of a kind and about a word; the bytes that it writes, and the place and the state after it; or the
+-- bytes that it writes, and the text that is entered after them: the conditionals that are open around it, its path and its bytes
 pub data Move : Type 0 where
   Stops : FaultKind → List ℕ → Move
   Moves : List ℕ → Place → State → Move
   Enters : List ℕ → List Progress → List ℕ → List ℕ → Move
 
--- what remains where a construct on a line comes to this, by what remains behind it and where a text is entered
+-- what remains where a construct on a line comes to this, by what remains after it and where a text is entered
 unfoldable pub moves_on : Move → ℕ → State → (Place → State → Passage) → (List Progress → List ℕ → List ℕ → Passage) → Passage
 moves_on (Stops kind word) line s next within = leaves (fails (fault_at kind line word s)) s
 moves_on (Moves bytes place t) line s next within = after_bytes bytes (next place t)
 moves_on (Enters bytes os path text) line s next within = after_bytes bytes (within os path text)
 
--- what remains of a nest of open sources where a construct comes to this in the innermost, by what remains of that behind it
+-- what remains of a nest of open sources where a construct comes to this in the innermost, by what remains of that after it
 abbrev pub nest_moves : Rules → List Waiting → Move → ℕ → State → Bool → List SourceToken → Passage
 nest_moves rules ws m line s first ts = moves_on m line s (λ place t. all_resumed rules ws place first ts t)
     (λ os path text. all_resumed rules (waiting rules os first ts line s text ∷ ws) (Live []) true (rules.tokens text) (at_start_of path s))

@@ -8,7 +8,7 @@ use Rattle.rdlpp_meaning.specs.Meaning.{Passage, leaves, after_bytes, goes_on, P
 use Rattle.rdlpp_meaning.specs.Resumed.{Place, Live, resumed}
 
 -- a source that waits for the text that it includes: its open conditionals, innermost first, whether only blanks stand
--- before what remains of it on that line, what remains of it, its state, and what is written behind the included text
+-- before what remains of it on that line, what remains of it, its state, and what is written after the included text
 -- (source: this project's profile)
 pub record Waiting : Type 0 where
   pub open_conditionals : List Progress
@@ -17,7 +17,7 @@ pub record Waiting : Type 0 where
   pub state : State
   pub ending : List ℕ
 
--- a source that waits for the text that an `include` on a line has found: what remains of it behind that
+-- a source that waits for the text that an `include` on a line has found: what remains of it after that
 unfoldable pub waiting : Rules → List Progress → Bool → List SourceToken → ℕ → State → List ℕ → Waiting
 waiting rules os first ts line s text = record {
   open_conditionals = os;

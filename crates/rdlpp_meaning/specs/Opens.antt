@@ -127,7 +127,7 @@ open_scope x below = elim x.kind [ OpenActual ↦ x.parent | _ ↦ suc (length b
 unfoldable pub open_bytes : Texts → Open → List Open → List ℕ
 open_bytes texts x below = slice_range (text_around texts x.kind x.parent below) x.part.from x.part.end
 
--- an open text behind so many of its bytes, where what is behind them is read in a mode
+-- an open text after so many of its bytes, where what is after them is read in a mode
 unfoldable pub open_after : Open → ℕ → Mode → Open
 open_after x n mode = record {
   part = record { from = x.part.from + n; end = x.part.end; mode = mode };

@@ -28,7 +28,7 @@ gives bytes = record { bytes = bytes; fault = None }
 unfoldable pub fails : Report → Outcome
 fails f = record { bytes = []; fault = Some f }
 
--- one outcome and then another, which counts for nothing behind a fault (source: this project's profile)
+-- one outcome and then another, which counts for nothing after a fault (source: this project's profile)
 unfoldable pub and_then : Outcome → Outcome → Outcome
 and_then a b = elim a.fault [
   | None ↦ record { bytes = a.bytes ++ b.bytes; fault = b.fault }

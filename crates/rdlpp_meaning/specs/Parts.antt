@@ -26,7 +26,7 @@ pub data Piece : Type 0 where
   Branching : Command → Piece
   Closing : Command → Piece
 
--- whether only blanks stand on the line behind bytes, where they did or didn't before them (source: this project's profile)
+-- whether only blanks stand on the line after bytes, where they did or didn't before them (source: this project's profile)
 unfoldable pub only_blanks : Bool → List ℕ → Bool
 only_blanks first [] = first
 only_blanks first (b ∷ bs) = only_blanks (is_line_end b || is_blank b && first) bs
@@ -52,13 +52,13 @@ directive_of t = elim t.sort [
   | Broken b ↦ None
 ]
 
--- what stands behind the word of a directive: the name or string that it wants, the bytes that it takes, and how many tokens
+-- what stands after the word of a directive: the name or string that it wants, the bytes that it takes, and how many tokens
 pub record Argument : Type 0 where
   pub given : Option (List ℕ)
   pub text : List ℕ
   pub used : ℕ
 
--- nothing behind the word of a directive
+-- nothing after the word of a directive
 unfoldable pub no_argument : Argument
 no_argument = record { given = None; text = []; used = 0 }
 
@@ -92,7 +92,7 @@ string_in_front (t ∷ ts) = elim t.sort [
   | _ ↦ no_argument
 ]
 
--- what stands in front of tokens, or behind blanks there
+-- what stands in front of tokens, or after blanks there
 unfoldable pub past_blanks : (List SourceToken → Argument) → List SourceToken → Argument
 past_blanks in_front [] = no_argument
 past_blanks in_front (t ∷ ts) = elim t.sort [
@@ -100,7 +100,7 @@ past_blanks in_front (t ∷ ts) = elim t.sort [
   | _ ↦ no_argument
 ]
 
--- what a directive takes of the tokens behind its word (source: IEEE 1364-2001, compiler directives)
+-- what a directive takes of the tokens after its word (source: IEEE 1364-2001, compiler directives)
 unfoldable pub argument_of : Directive → List SourceToken → Argument
 argument_of Undef ts = past_blanks name_in_front ts
 argument_of Ifdef ts = past_blanks name_in_front ts
@@ -109,7 +109,7 @@ argument_of Elsif ts = past_blanks name_in_front ts
 argument_of Include ts = past_blanks string_in_front ts
 argument_of d ts = no_argument
 
--- a directive whose token has these things behind it
+-- a directive whose token has these things after it
 unfoldable pub command_of : Directive → Bool → SourceToken → Argument → Command
 command_of d first t a =
     record { word = d; given = a.given; text = t.bytes ++ a.text; line = t.line; first = first }
@@ -118,7 +118,7 @@ command_of d first t a =
 abbrev pub command_in_front : Directive → Bool → SourceToken → List SourceToken → Command
 command_in_front d first t ts = command_of d first t (argument_of d ts)
 
--- the tokens behind the directive that stands in front of them
+-- the tokens after the directive that stands in front of them
 abbrev pub after_directive : Directive → List SourceToken → List SourceToken
 after_directive d ts = drop (argument_of d ts).used ts
 
@@ -169,7 +169,7 @@ mutual
     Closed : Command → Branches
     Branch : Command → Parts → Branches → Branches
 
--- parts up to the first branch or end that no conditional among them takes, that directive, and what is behind it
+-- parts up to the first branch or end that no conditional among them takes, that directive, and what is after it
 pub data Level : Type 0 where
   Last : Parts → Level
   Upto : Parts → Command → Level → Level
@@ -193,7 +193,7 @@ further_branches (Last ps) = Unclosed
 further_branches (Upto ps c l) = Branch c (front_parts l) (further_branches l)
 further_branches (Ended ps c l) = Closed c
 
--- what a level has behind the end of a conditional that opens before it
+-- what a level has after the end of a conditional that opens before it
 unfoldable pub after_end : Level → Level
 after_end (Last ps) = Last Nothing
 after_end (Upto ps c l) = after_end l

@@ -69,7 +69,7 @@ unfoldable pub trailing : List SourceToken → List SourceToken
 trailing [] = []
 trailing (t ∷ ts) = elim (directive_of t) [ None ↦ trailing ts | Some d ↦ t ∷ ts ]
 
--- what remains behind the directive that stands in front
+-- what remains after the directive that stands in front
 abbrev pub following : Rules → Place → Directive → Bool → SourceToken → List SourceToken → State → Passage
 following rules place d first t ts s =
     resumed rules place (only_blanks first (command_in_front d first t ts).text) (after_directive d ts) s

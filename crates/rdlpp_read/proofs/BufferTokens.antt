@@ -111,7 +111,7 @@ pub text-past : {R : Type 0} (unread : R → List ℕ) (old new : BufferView R) 
 unfolding text_left
 text-past unread old new len held rest = grind (arith, take-append-drop len (held_of old), append_assoc (take len (held_of old)) (drop len (held_of old)) (rest_of unread old))
 
--- and where more were used behind
+-- and where more were used after
 pub text-on : (x y : List ℕ) (old mid new : List ℕ) → old ≡ x ++ mid → mid ≡ y ++ new → old ≡ (x ++ y) ++ new
 text-on x y old mid new first then_ = first ∙ (ap (λ v. x ++ v) then_ ∙ sym (append_assoc x y new))
 
@@ -123,13 +123,13 @@ unfolding rest_of unread_of ahead_of
 ends_line unread b (inl whole) = inl whole
 ends_line unread b (inr none) = inr (rw (none.0, none.1) refl)
 
--- the tokens that remain go by what is held, by what stands behind it, and by the numbers and the mode
+-- the tokens that remain go by what is held, by what stands after it, and by the numbers and the mode
 pub tokens-same : {R : Type 0} (unread : R → List ℕ) (old new : BufferView R) → new.line ≡ old.line → new.line_bytes ≡ old.line_bytes → new.mode ≡ old.mode →
     new.open_token_line ≡ old.open_token_line → new.bytes_left ≡ old.bytes_left → held_of new ≡ held_of old → rest_of unread new ≡ rest_of unread old → tokens_left unread new ≡ tokens_left unread old
 unfolding tokens_left
 tokens-same unread old new line line_bytes mode open_token_line bytes_left held rest = cc
 
--- lines that come behind what is held change no token
+-- lines that come after what is held change no token
 pub lengthens-tokens : {R : Type 0} (has_known_texts : Type 0) (unread : R → List ℕ) (old new : BufferView R) → new.line ≡ old.line → new.line_bytes ≡ old.line_bytes → new.mode ≡ old.mode →
     new.open_token_line ≡ old.open_token_line → Lengthens has_known_texts unread old new → has_known_texts → tokens_left unread new ≡ tokens_left unread old
 unfolding tokens_left
@@ -203,7 +203,7 @@ compacts old new order inside becomes =
     let n = old.accepted - old.at in
     grind (arith, drop-take old.at n old.window, drop-drop n old.at old.window, take-append-drop old.at old.window, length-take-le old.at old.window (omega arith))
 
--- the text behind what is held stays
+-- the text after what is held stays
 pub compacts-rest : {R : Type 0} (unread : R → List ℕ) (old new : BufferView R) → Compacts old new → rest_of unread new ≡ rest_of unread old
 unfolding rest_of
 compacts-rest unread old new c = let ahead = c.ahead in let reader = c.reader in cc
@@ -212,11 +212,11 @@ compacts-rest unread old new c = let ahead = c.ahead in let reader = c.reader in
 pub compacts-ends : {R : Type 0} (old new : BufferView R) → Compacts old new → EndsHeld old → EndsHeld new
 compacts-ends old new c ends = grind arith
 
--- what stays behind a move
+-- what stays after a move
 stays-from : {R : Type 0} (old mid new : BufferView R) → Compacts old mid → Stays mid new → Stays old new
 stays-from old mid new c s = record { held = s.held ∙ c.held; bytes_left = s.bytes_left ∙ c.bytes_left }
 
--- what was found behind a move
+-- what was found after a move
 compacts-by : {R : Type 0} (has_known_texts : Type 0) (unread : R → List ℕ) (fill : Fill) (old mid new : BufferView R) → Compacts old mid → GrowsBy has_known_texts unread fill mid new → GrowsBy has_known_texts unread fill old new
 compacts-by has_known_texts unread Held old mid new c by = grind (arith, compacts-rest)
 compacts-by has_known_texts unread End old mid new c by = (stays-from old mid new c by.0, λ t. sym (compacts-rest unread old mid c) ∙ by.1 t, by.2)
@@ -431,7 +431,7 @@ held_windows-len {R} (f ∷ fs) =
     let whole : held_bytes (f ∷ fs) ≡ length f.buffer.window + held_bytes fs = sum_by-cons (λ (g : File R). length g.buffer.window) f fs in
     ap (sum_by length) cut ∙ parts ∙ omega arith
 
--- behind bytes and then bytes
+-- after bytes and then bytes
 pub ends_mid_line_after-append : (ends_mid_line : Bool) (x y : List ℕ) → ends_mid_line_after ends_mid_line (x ++ y) ≡ ends_mid_line_after (ends_mid_line_after ends_mid_line x) y
 unfolding ends_mid_line_after
 ends_mid_line_after-append ends_mid_line [] y = refl

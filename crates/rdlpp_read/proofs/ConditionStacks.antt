@@ -55,7 +55,7 @@ pub rest_seen : (stored after : List StoredProgress) (n : ℕ) → n ≡ length 
 rest_seen [] after n size some is = absurd (omega arith)
 rest_seen (o ∷ os) after n size some is = grind (arith, seen-rest)
 
--- the innermost behind a branch
+-- the innermost after a branch
 pub turned_seen : (stored after : List StoredProgress) (n : ℕ) (o next : StoredProgress) (word : Directive) (holds : Bool) → n ≡ length stored → 0 < n → o ≡ get_or stored (n - 1) o
     → next ≡ record { line = o.line; taken = o.taken || holds; closing = is_else word } → after ≡ set stored (n - 1) next → seen_of after ≡ turned_open word holds (seen_of stored)
 unfolding turned_open
@@ -123,7 +123,7 @@ unfolding place_by
 unclosed_some None o os line is = ap Some is
 unclosed_some (Some n) o os line is = ap Some is
 
--- a branch behind an `else`
+-- a branch after an `else`
 pub turn_refused : (o : Progress) (word : Directive) → o.closing ≡ true → IsTurn o word (Refused BranchAfterElse)
 unfolding turn
 turn_refused o word closing = (refl, λ c s is. rw closing refl)
@@ -133,7 +133,7 @@ pub turn_else : (o : Progress) (word : Directive) (holds : Bool) → o.closing �
 unfolding turn
 turn_else o word holds closing last is = λ c s w. rw (closing, w, last, is) refl
 
--- a branch behind one that was taken
+-- a branch after one that was taken
 pub turn_taken : (o : Progress) (word : Directive) → o.closing ≡ false → is_else word ≡ false → o.taken ≡ true → IsTurn o word (Decided false)
 unfolding turn
 turn_taken o word closing other taken = λ c s w. rw (closing, w, other, taken) refl

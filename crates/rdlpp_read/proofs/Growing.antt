@@ -1,4 +1,4 @@
--- How what is held of a source grows by reading on: its lines, and what stands behind it.
+-- How what is held of a source grows by reading on: its lines, and what stands after it.
 use Rattle.std.proofs.Common.{◌≡◌, ℕ, ◌+◌, ◌-◌, ◌≤◌, List, length, take, drop, sym, ap, ◌∙◌, arith, zero, suc, ◌<◌, [], ◌∷◌, ◌++◌, refl, subst, Bool, true, false, cond, length-append, min, inl, inr, None, Some, Option, ◌⊎◌, IsSome, is_none, take-add, append-nil, append_assoc, drop-drop, length-drop, length-take, length-take-le, take-append-drop, take-take}
 use Rattle.std.specs.List.{copy_within}
 use Rattle.std.proofs.Math.Seq.{take-append_seam, take-length}
@@ -42,7 +42,7 @@ shifted s n xs h k =
 pub held_le : (s a n : ℕ) (xs : List ℕ) → length (drop s (take a (take n xs))) ≤ a - s
 held_le s a n xs = omega (arith, length-drop s (take a (take n xs)), length-take a (take n xs))
 
--- what stands behind a place, of the first bytes
+-- what stands after a place, of the first bytes
 pub ahead_slice : (s n : ℕ) (xs : List ℕ) → s ≤ n → take (n - s) (drop s xs) ≡ drop s (take n xs)
 ahead_slice s n xs h =
     let m = n - s in
@@ -78,7 +78,7 @@ whole-append-none (x ∷ xs) ys h = ap (onto_whole_lines x) (whole-append-none x
 pub to_end : (seen : ℕ) (bytes : List ℕ) → take (length bytes - seen) (drop seen bytes) ≡ drop seen bytes
 to_end seen bytes = rw (← length-drop seen bytes) (take-length (drop seen bytes))
 
--- whole lines behind the first `seen` bytes are seen in the whole text
+-- whole lines after the first `seen` bytes are seen in the whole text
 pub found_after : (seen : ℕ) (bytes : List ℕ) → 0 < whole_lines_len (take (length bytes - seen) (drop seen bytes)) → 0 < whole_lines_len bytes
 found_after seen bytes some =
     let all = whole-append-some (take seen bytes) (drop seen bytes) (rw to_end at some) in
@@ -86,7 +86,7 @@ found_after seen bytes some =
     let more = rw to_end at some in
     omega arith
 
--- no line end in the first `seen` bytes and none behind them
+-- no line end in the first `seen` bytes and none after them
 pub none_after : (seen : ℕ) (bytes : List ℕ) → whole_lines_len (take seen bytes) ≡ 0 → whole_lines_len (take (length bytes - seen) (drop seen bytes)) ≡ 0 → whole_lines_len bytes ≡ 0
 none_after seen bytes before none =
     let all = whole-append-none (take seen bytes) (drop seen bytes) (rw to_end at none) in
@@ -102,7 +102,7 @@ whole_within room bytes =
 
 -- The first line of a text, by its parts.
 
--- whole lines behind a byte that is no line end
+-- whole lines after a byte that is no line end
 after-byte : (b n : ℕ) → is_line_end b ≡ false → 0 < onto_whole_lines b n → 0 < n
 unfolding onto_whole_lines
 after-byte b zero e some = let none = rw e at some in absurd (omega arith)
@@ -119,7 +119,7 @@ unfolding onto_whole_lines
 none-byte b zero h = (none-case (is_line_end b) h, refl)
 none-byte b (suc n) h = absurd (omega arith)
 
--- the first line goes on behind bytes without a line end
+-- the first line goes on after bytes without a line end
 pub line-more : (k : ℕ) (bytes : List ℕ) → whole_lines_len (take k bytes) ≡ 0 → k < length bytes → k < line_len bytes
 unfolding whole_lines_len line_len
 line-more k [] none more = absurd (omega arith)
@@ -147,7 +147,7 @@ none-line (b ∷ bs) none =
     let tail = none-line bs parts.1 in
     rw parts.0 (omega arith)
 
--- the first line goes on behind the room, where the window has a line end but not within the room
+-- the first line goes on after the room, where the window has a line end but not within the room
 line-over : (room : ℕ) (w r : List ℕ) → whole_lines_len (take (min room (length w)) w) ≡ 0 → 0 < whole_lines_len w → room < line_len (w ++ r)
 line-over room w r none some =
     let held : min room (length w) ≤ length w = omega arith in
@@ -166,7 +166,7 @@ past-whole left bytes ended none some = grind (arith, line-within, line-over)
 pub past-last : (left : ℕ) (bytes : List ℕ) → whole_lines_len bytes ≡ 0 → left < length bytes → IsPast bytes left true
 past-last left bytes none long = grind (arith, append-nil, line_len-le, none-line)
 
--- a text goes on behind bytes without a line end
+-- a text goes on after bytes without a line end
 pub line-longer : (bytes more : List ℕ) → whole_lines_len bytes ≡ 0 → 0 < length more → length bytes < line_len (bytes ++ more)
 line-longer bytes more none some = line-more (length bytes) (bytes ++ more) (rw take-append_seam none) (omega (arith, length-append bytes more))
 
@@ -210,14 +210,14 @@ some_left xs ys to n h e bytes_left = grind (arith, length-take-le, length-appen
 pub window_after : (filled n : ℕ) (old new : List ℕ) → take filled new ≡ take filled old → take (filled + n) new ≡ take filled old ++ take n (drop filled new)
 window_after filled n old new kept = take-add filled n new ∙ ap (λ w. w ++ take n (drop filled new)) kept
 
--- How what is held of a source grows by reading on, and what then stands behind it.
+-- How what is held of a source grows by reading on, and what then stands after it.
 
 -- before the first turn
 pub search-starts : {S R : Type 0} (g : Ghosts S R) (sources : S) (f : BufferView R) → f.accepted ≤ length f.window → EndsHeld f → Searches g sources sources f f 0
 unfolding whole_lines_len
 search-starts g sources f inside ends = grind (arith, slides-same)
 
--- what a turn adds stands behind what was ahead
+-- what a turn adds stands after what was ahead
 reads-ahead : {R : Type 0} (told : Type 0) (unread : R → List ℕ) (mid new : BufferView R) → mid.accepted ≤ length mid.window → (reads : ReadsOn told unread mid new) →
     ahead_of new ≡ ahead_of mid ++ reads.gained
 unfolding ahead_of
@@ -233,7 +233,7 @@ reads-text : {R : Type 0} (told : Type 0) (unread : R → List ℕ) (mid new : B
 unfolding rest_of
 reads-text told unread mid new inside reads t = grind (arith, reads-ahead told unread mid new inside reads, append_assoc)
 
--- what a turn adds came behind the window
+-- what a turn adds came after the window
 reads-slides : {R : Type 0} (told : Type 0) (unread : R → List ℕ) (mid new : BufferView R) → ReadsOn told unread mid new → Slides told Unit unread mid new
 reads-slides told unread mid new reads = record {
   dropped = [];
@@ -307,7 +307,7 @@ pub fewer-turns : {R : Type 0} (has_known_texts : Type 0) (unread : R → List �
 unfolding turns_left
 fewer-turns has_known_texts unread old new reads some = grind (arith, length-append, fewer)
 
--- nothing is unread behind the end of a text
+-- nothing is unread after the end of a text
 unread-ended : {R : Type 0} (unread : R → List ℕ) (r : Option R) → is_none r ≡ true → unread_of unread r ≡ []
 unfolding unread_of
 unread-ended unread None h = refl
@@ -323,7 +323,7 @@ window-parts : {R : Type 0} (f : BufferView R) → f.at ≡ 0 → f.accepted ≤
 unfolding held_of ahead_of
 window-parts f at inside = rw at (omega (arith, length-take-le f.accepted f.window inside, length-drop f.accepted f.window))
 
--- what was accepted stands behind what is held
+-- what was accepted stands after what is held
 accepts-held : {R : Type 0} (mid new : BufferView R) → mid.at ≡ 0 → (a : Accepts mid new) → held_of new ≡ held_of mid ++ take a.len (ahead_of mid)
 unfolding held_of ahead_of
 accepts-held mid new at a = ap held_of a.becomes ∙ rw at (take-add mid.accepted a.len mid.window)
@@ -333,7 +333,7 @@ accepts-ahead : {R : Type 0} (mid new : BufferView R) → (a : Accepts mid new) 
 unfolding ahead_of
 accepts-ahead mid new a = ap ahead_of a.becomes ∙ sym (drop-drop a.len mid.accepted mid.window)
 
--- the text behind what was accepted
+-- the text after what was accepted
 accepts-rest : {R : Type 0} (unread : R → List ℕ) (mid new : BufferView R) → (a : Accepts mid new) → rest_of unread mid ≡ take a.len (ahead_of mid) ++ rest_of unread new
 unfolding rest_of
 accepts-rest unread mid new a = grind (arith, accepts-ahead mid new a, take-append-drop a.len (ahead_of mid), append_assoc)

@@ -31,27 +31,27 @@ pub continues-starts : {S R : Type 0} (g : Ghosts S R) (sources : S) (f : Buffer
 unfolding whole_lines_len logical_len
 continues-starts g sources f ends = grind (arith, append-nil, slides-same)
 
--- the search goes on behind the first bytes, which are whole lines
+-- the search goes on after the first bytes, which are whole lines
 logical-from : (h : List ℕ) (seen : ℕ) → seen ≤ length h → IsWholeLines (take seen h) → logical_len 0 0 (take seen h) ≡ None →
     logical_len 0 0 h ≡ option_map (λ n. seen + n) (logical_len 0 0 (take (length h - seen) (drop seen h)))
 logical-from h seen inside whole none = grind (arith, logical_len-after_lines (take seen h) (drop seen h) whole none, length-drop seen h, take-length (drop seen h), length-take-le seen h inside, take-append-drop seen h)
 
--- the end of the logical line was found behind the first bytes
+-- the end of the logical line was found after the first bytes
 found-at : (h : List ℕ) (seen len : ℕ) → seen ≤ length h → IsWholeLines (take seen h) → logical_len 0 0 (take seen h) ≡ None →
     logical_len 0 0 (take (length h - seen) (drop seen h)) ≡ Some len → logical_len 0 0 h ≡ Some (seen + len)
 found-at h seen len inside whole none found = logical-from h seen inside whole none ∙ ap (option_map (λ n. seen + n)) found
 
--- no end was found behind them
+-- no end was found after them
 pub none-at : (h : List ℕ) (seen : ℕ) → seen ≤ length h → IsWholeLines (take seen h) → logical_len 0 0 (take seen h) ≡ None →
     logical_len 0 0 (take (length h - seen) (drop seen h)) ≡ None → logical_len 0 0 h ≡ None
 none-at h seen inside whole none found = logical-from h seen inside whole none ∙ ap (option_map (λ n. seen + n)) found
 
--- what isn't used behind what is consumed
+-- what isn't used after what is consumed
 consumed-held : {R : Type 0} (f : BufferView R) (n : ℕ) → held_of (consumed f n) ≡ drop n (held_of f)
 unfolding held_of consumed
 consumed-held f n = sym (drop-drop n f.at (take f.accepted f.window))
 
--- the tokens behind what is consumed of plain text
+-- the tokens after what is consumed of plain text
 consumed-tokens : {R : Type 0} (unread : R → List ℕ) (f : BufferView R) (n : ℕ) → f.mode ≡ Plain →
     tokens_left unread (consumed f n) ≡ remaining_tokens f.line_bytes Plain f.line (f.line + line_ends (take n (held_of f))) (drop n (held_of f)) f.bytes_left (rest_of unread f)
 unfolding tokens_left consumed rest_of held_of ahead_of
@@ -78,7 +78,7 @@ define-last unread f plain holds none ended short = grind (arith, remaining-logi
 held-short : {R : Type 0} (f : BufferView R) → IsBuffer f → length (held_of f) ≤ f.line_bytes
 held-short f sound = let within = sound.within in omega (arith, held-le f)
 
--- the window moved on, and then once more behind the last reading
+-- the window moved on, and then once more after the last reading
 slides-following : {S R : Type 0} (g : Ghosts S R) (first now : S) (fill : Fill) (answer : LogicalLine) (old mid new : BufferView R) (seen : ℕ) → Continues g first now old mid seen →
     (IsExactLine answer → IsExact fill) → Grows (g.has_known_texts now) g.unread fill mid new → Slides (g.has_known_texts first) (IsExactLine answer) g.unread old new
 slides-following g first now fill answer old mid new seen c exact grows =
@@ -197,7 +197,7 @@ continues-on g first now after old mid new seen len c none all ends grows call =
 pub fewer-lines : {R : Type 0} (has_known_texts : Type 0) (unread : R → List ℕ) (mid new : BufferView R) → Grows has_known_texts unread Held mid new → new.line_bytes - length (held_of new) < mid.line_bytes - length (held_of mid)
 fewer-lines has_known_texts unread mid new grows = grind (arith, length-append)
 
--- Whether only blanks stand behind bytes, by their last one.
+-- Whether only blanks stand after bytes, by their last one.
 
 -- by the last byte
 blanks_last : (first : Bool) (at : ℕ) (bs : List ℕ) → 0 < at → at ≤ length bs
@@ -210,7 +210,7 @@ blanks_last first at bs some within =
     ap (λ (k : ℕ). only_blanks first (take k bs)) same
     ∙ ap (only_blanks first) (take-suc bs n 0 inside) ∙ only_blanks-append first (take n bs) (get_or bs n 0 ∷ [])
 
--- behind an LF only blanks stand
+-- after an LF only blanks stand
 pub blanks_line_end : (first : Bool) (at : ℕ) (bs : List ℕ) → 0 < at → at ≤ length bs → get_or bs (at - 1) 0 ≡ 10
     → only_blanks first (take at bs) ≡ true
 unfolding is_line_end
@@ -221,12 +221,12 @@ not_line_end : (b : ℕ) → b ≢ 10 → is_line_end b ≡ false
 unfolding is_line_end
 not_line_end b ne = elim (eqb_tells b 10) [ inl h ↦ absurd (ne h.1) | inr h ↦ h.0 ]
 
--- behind another byte that is no blank they don't
+-- after another byte that is no blank they don't
 pub blanks_other : (first : Bool) (at : ℕ) (bs : List ℕ) → 0 < at → at ≤ length bs → get_or bs (at - 1) 0 ≢ 10 → is_blank (get_or bs (at - 1) 0) ≡ false
     → only_blanks first (take at bs) ≡ false
 blanks_other first at bs some within ne e = blanks_last first at bs some within ∙ rw (not_line_end (get_or bs (at - 1) 0) ne, e) refl
 
--- behind a blank it is as before it
+-- after a blank it is as before it
 pub blanks_blank : (first : Bool) (at : ℕ) (bs : List ℕ) → 0 < at → at ≤ length bs → get_or bs (at - 1) 0 ≢ 10 → is_blank (get_or bs (at - 1) 0) ≡ true
     → only_blanks first (take at bs) ≡ only_blanks first (take (at - 1) bs)
 blanks_blank first at bs some within ne e = blanks_last first at bs some within ∙ rw (not_line_end (get_or bs (at - 1) 0) ne, e) refl

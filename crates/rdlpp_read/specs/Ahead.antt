@@ -1,4 +1,4 @@
--- What the bytes behind the accepted lines of a source allow: more whole lines, or none.
+-- What the bytes after the accepted lines of a source allow: more whole lines, or none.
 -- A definition that names no source is this project's own.
 use Rattle.std.specs.Prelude.{◌≡◌, ℕ, ◌≤◌, ◌<◌, Bool, true, false, List, [], ◌++◌, length, take, ◌⊎◌}
 use Rattle.rdlpp_scan.specs.SourceTokens.{line_len}

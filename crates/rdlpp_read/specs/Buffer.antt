@@ -30,11 +30,11 @@ unfoldable pub unread_of : {R : Type 0} → (R → List ℕ) → Option R → Li
 unread_of unread None = []
 unread_of unread (Some reader) = unread reader
 
--- the bytes in the window behind the accepted lines
+-- the bytes in the window after the accepted lines
 unfoldable pub ahead_of : {R : Type 0} → BufferView R → List ℕ
 ahead_of f = drop f.accepted f.window
 
--- the text behind the accepted lines
+-- the text after the accepted lines
 unfoldable pub rest_of : {R : Type 0} → (R → List ℕ) → BufferView R → List ℕ
 rest_of unread f = ahead_of f ++ unread_of unread f.reader
 
@@ -76,7 +76,7 @@ unfoldable pub unused_of : {R : Type 0} → BufferView R → ℕ
 unused_of f = f.bytes_left + (f.accepted - f.at)
 
 -- the places in what is held are in order; the line, what isn't used and one more are a digit of the work left together; and what
--- is open didn't open behind the line
+-- is open didn't open after the line
 pub record IsBuffer {R : Type 0} (f : BufferView R) : Type 0 where
   pub used : f.at ≤ f.accepted
   pub lines : f.accepted ≤ length f.window
@@ -102,7 +102,7 @@ entered_mode f next = record f { mode = next; open_token_line = opening f.mode f
 abbrev pub EndsHeld : {R : Type 0} → BufferView R → Type 0
 EndsHeld f = IsWholeLines (held_of f) ⊎ ((f.reader ≡ None) × (ahead_of f ≡ []))
 
--- the physical line of the first byte behind the accepted lines, which is the one that is read
+-- the physical line of the first byte after the accepted lines, which is the one that is read
 unfoldable pub reading_line_of : {R : Type 0} → BufferView R → ℕ
 reading_line_of f = f.line + line_ends (held_of f)
 

@@ -12,7 +12,7 @@ use Rattle.rdlpp_read.specs.declared.conditions.Branch.{Branch}
 use Rattle.rdlpp_read.specs.declared.conditions.Branch.TheVariants.{Inner, Refused, Decided, Named}
 use Rattle.rdlpp_read.specs.Conditions.{ConditionsView, conditions_left}
 
--- whether text is skipped behind a directive, by whether its test holds
+-- whether text is skipped after a directive, by whether its test holds
 unfoldable pub skipped_by : Bool → Option ℕ
 skipped_by true = None
 skipped_by false = Some 0
@@ -29,7 +29,7 @@ abbrev pub opening_answer : {A : Type 0} → Result A FaultKind → Bool → Tes
 opening_answer (Ok x) holds = Holds holds
 opening_answer (Err kind) holds = TestFault kind []
 
--- the conditionals behind one that opens: one more, or the same where it is refused
+-- the conditionals after one that opens: one more, or the same where it is refused
 abbrev pub after_opening : {A : Type 0} → Result A FaultKind → ℕ → Bool → ConditionsView → ConditionsView
 after_opening (Ok x) line holds v = opened_with line holds v
 after_opening (Err kind) line holds v = v
@@ -43,7 +43,7 @@ pub record Opens {A : Type 0} (result : Result A FaultKind) (line : ℕ) (holds 
 abbrev pub HasTest : Progress → Directive → (Command → State → Test) → Type 0
 HasTest o word test = (c : Command) (s : State) → c.word ≡ word → turn o c s ≡ test c s
 
--- what is told of a branch of an open conditional is its test: it is refused behind an `else`, or it is decided, or its name decides, if
+-- what is told of a branch of an open conditional is its test: it is refused after an `else`, or it is decided, or its name decides, if
 -- it isn't an `else` (IEEE 1364-2001, `elsif`, `else`)
 abbrev pub IsTurn : Progress → Directive → Branch → Type 0
 IsTurn o word Inner = ⊥
@@ -58,7 +58,7 @@ IsBranch (Live (o ∷ os)) word branch = IsTurn o word branch
 IsBranch (Skipped zero o os) word branch = IsTurn o word branch
 IsBranch (Skipped (suc n) o os) word branch = branch ≡ Inner
 
--- the open conditionals, with the innermost behind a branch
+-- the open conditionals, with the innermost after a branch
 unfoldable pub turned_open : Directive → Bool → List Progress → List Progress
 turned_open word holds [] = []
 turned_open word holds (o ∷ os) = record { line = o.line; taken = o.taken || holds; closing = is_else word } ∷ os

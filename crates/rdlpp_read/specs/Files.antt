@@ -74,7 +74,7 @@ with_inner change (f ∷ outer) = change f ∷ outer
 abbrev pub with_buffer : {R : Type 0} → BufferView R → List (File R) → List (File R)
 with_buffer buffer include_stack = with_inner (λ f. record f { buffer = buffer }) include_stack
 
--- whether the last byte isn't LF, behind bytes, where it was or wasn't before them
+-- whether the last byte isn't LF, after bytes, where it was or wasn't before them
 unfoldable pub ends_mid_line_after : Bool → List ℕ → Bool
 ends_mid_line_after ends_mid_line [] = ends_mid_line
 ends_mid_line_after ends_mid_line (b ∷ bs) = ends_mid_line_after (not (is_line_end b)) bs

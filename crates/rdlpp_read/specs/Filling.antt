@@ -14,7 +14,7 @@ use Rattle.rdlpp_read.specs.Buffer.{BufferView, EndsHeld, Slides, ahead_of, held
 use Rattle.rdlpp_read.specs.declared.buffer.filling.Fill.{Fill}
 use Rattle.rdlpp_read.specs.declared.buffer.filling.Fill.TheVariants.{Held, End, SourceLong, LineLong, Failed}
 
--- lines were accepted behind those that are held
+-- lines were accepted after those that are held
 pub record Accepts {R : Type 0} (old new : BufferView R) : Type 0 where
   pub len : ℕ
   pub lines : AreLines len (ahead_of old) old.bytes_left (is_none old.reader)
@@ -44,7 +44,7 @@ pub record ReadsOn {R : Type 0} (has_known_texts : Type 0) (unread : R → List 
   pub moves : (new.reader ≡ None) ⊎ (0 < length gained)
   pub within : length new.window ≤ new.line_bytes
 
--- a reading that came to an end: what is held stays; a line that is too long goes on behind a full window without a line end
+-- a reading that came to an end: what is held stays; a line that is too long goes on after a full window without a line end
 pub record Stops {R : Type 0} (has_known_texts : Type 0) (unread : R → List ℕ) (fill : Fill) (old new : BufferView R) : Type 0 where
   pub becomes : new ≡ record old { reader = new.reader }
   pub kind : (fill ≡ Failed) ⊎ (fill ≡ LineLong)
@@ -86,7 +86,7 @@ pub record Seeks {R : Type 0} (has_known_texts : Type 0) (unread : R → List �
 unfoldable pub turns_left : {R : Type 0} → BufferView R → ℕ
 turns_left f = (f.line_bytes - length f.window) + elim f.reader [ None ↦ 0 | Some reader ↦ 1 ]
 
--- what the turns of reading have done so far: the first `seen` bytes behind the accepted lines have no line end
+-- what the turns of reading have done so far: the first `seen` bytes after the accepted lines have no line end
 pub record Searches {S R : Type 0} (g : Ghosts S R) (sources new_sources : S) (old new : BufferView R) (seen : ℕ) : Type 0 where
   pub seeks : Seeks (g.has_known_texts sources) g.unread old new
   pub place : seen ≤ length (ahead_of new)
@@ -94,7 +94,7 @@ pub record Searches {S R : Type 0} (g : Ghosts S R) (sources new_sources : S) (o
   pub ends : EndsHeld new
   pub call : SourcesRead g false sources new_sources
 
--- whole lines came behind those that are held, or the last line of the text
+-- whole lines came after those that are held, or the last line of the text
 pub record Lengthens {R : Type 0} (has_known_texts : Type 0) (unread : R → List ℕ) (old new : BufferView R) : Type 0 where
   pub lines : List ℕ
   pub some : 0 < length lines
@@ -106,13 +106,13 @@ pub record Lengthens {R : Type 0} (has_known_texts : Type 0) (unread : R → Lis
   pub ends : EndsLine lines (rest_of unread new)
   pub rest : has_known_texts → rest_of unread old ≡ lines ++ rest_of unread new
 
--- nothing came behind what is held
+-- nothing came after what is held
 pub record Stays {R : Type 0} (old new : BufferView R) : Type 0 where
   pub held : held_of new ≡ held_of old
   pub bytes_left : new.bytes_left ≡ old.bytes_left
 
--- what stood behind the lines that are held: more lines; the end of the text; a line with which the source is too long, and
--- which fits behind what is held; a line that doesn't fit behind it; or it isn't known, since a read failed, and no whole line is ahead
+-- what stood after the lines that are held: more lines; the end of the text; a line with which the source is too long, and
+-- which fits after what is held; a line that doesn't fit after it; or it isn't known, since a read failed, and no whole line is ahead
 abbrev pub GrowsBy : {R : Type 0} → Type 0 → (R → List ℕ) → Fill → BufferView R → BufferView R → Type 0
 GrowsBy has_known_texts unread Held old new = Lengthens has_known_texts unread old new
 GrowsBy has_known_texts unread End old new = Stays old new × (has_known_texts → rest_of unread old ≡ []) × (rest_of unread new ≡ [])
@@ -127,7 +127,7 @@ GrowsBy has_known_texts unread Failed old new = Stays old new × (has_known_text
 abbrev pub IsExact : Fill → Type 0
 IsExact fill = fill ≡ LineLong → ⊥
 
--- what is held of a source grew, by what stood behind it
+-- what is held of a source grew, by what stood after it
 pub record Grows {R : Type 0} (has_known_texts : Type 0) (unread : R → List ℕ) (fill : Fill) (old new : BufferView R) : Type 0 where
   pub line : new.line ≡ old.line
   pub line_bytes : new.line_bytes ≡ old.line_bytes

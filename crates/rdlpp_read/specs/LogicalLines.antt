@@ -20,7 +20,7 @@ is_failed_line TooLong = false
 is_failed_line SourceLong = false
 is_failed_line Failed = true
 
--- more lines may have come behind what is held, and nothing else changed
+-- more lines may have come after what is held, and nothing else changed
 pub record Extends {R : Type 0} (old new : BufferView R) : Type 0 where
   pub line : new.line ≡ old.line
   pub line_bytes : new.line_bytes ≡ old.line_bytes
@@ -40,7 +40,7 @@ IsLogical has_known_texts unread f len =
     (logical_len 0 0 (held_of f) ≡ Some len)
     ⊎ ((logical_len 0 0 (held_of f) ≡ None) × (len ≡ length (held_of f)) × (has_known_texts → rest_of unread f ≡ []))
 
--- what the answer says of a `define` that stands there: its token and those behind its logical line; or it is broken, as too
+-- what the answer says of a `define` that stands there: its token and those after its logical line; or it is broken, as too
 -- long where it has more bytes than a line may have with its next line, and else as cut by the limit of its source (this project's profile)
 abbrev pub TellsDefine : {R : Type 0} → (R → List ℕ) → LogicalLine → BufferView R → BufferView R → Type 0
 TellsDefine unread (Whole len) old new =

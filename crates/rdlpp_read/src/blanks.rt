@@ -4,7 +4,7 @@ ghost use Rattle.rdlpp_meaning.specs.Parts.{only_blanks};
 
 use rdlpp_scan::is_blank;
 
-/// Whether only blanks stand on the line behind bytes, where `first` says whether they did before
+/// Whether only blanks stand on the line after bytes, where `first` says whether they did before
 /// them.
 ///
 /// Costs time linear in the blanks at the end of the bytes.

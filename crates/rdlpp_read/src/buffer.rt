@@ -203,7 +203,7 @@ impl<R: Drop> SourceBuffer<R> {
         self.line + line_ends_in(self.held()) as u64
     }
 
-    // The bytes in the window behind the accepted lines.
+    // The bytes in the window after the accepted lines.
     fn ahead(&self) -> &[u8]
         ensures { result.now ≡ ahead_of self.now }
     {

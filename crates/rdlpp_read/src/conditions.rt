@@ -164,7 +164,7 @@ impl Conditions {
     /// # Rules
     ///
     /// IEEE 1364-2001, `elsif`, `else`; that a conditional doesn't span sources, and that the name of an
-    /// `elsif` behind a branch that was taken isn't looked at, is this project's profile.
+    /// `elsif` after a branch that was taken isn't looked at, is this project's profile.
     pub fn branch(&self, below: usize, word: Directive) -> Branch
         requires { below ≤ length self.now.open_now }
         ensures { IsBranch (place_of below self.now) word result }
@@ -244,7 +244,7 @@ impl Conditions {
     }
 }
 
-// Whether text is skipped behind a directive whose test holds or doesn't.
+// Whether text is skipped after a directive whose test holds or doesn't.
 #[tactic(auto, unfolding(crate::specs::ConditionMoves::skipped_by))]
 fn skipped_by(holds: bool) -> Option<u64>
     ensures { result ≡ skipped_by holds }

@@ -110,7 +110,7 @@ impl<R: Drop> File<R> {
     }
 }
 
-// Whether the last byte of bytes isn't LF, where `torn` says so of what stands before them.
+// Whether the last byte of bytes isn't LF, where `ends_mid_line` says so of what stands before them.
 fn goes_mid_line(ends_mid_line: bool, bytes: &[u8]) -> bool
     ensures { result ≡ ends_mid_line_after ends_mid_line bytes.now }
 {

@@ -1,4 +1,4 @@
--- What is told of the places of macros behind changes.
+-- What is told of the places of macros after changes.
 use Rattle.std.proofs.Common.{◌≡◌, ℕ, ◌⊎◌, inl, inr, IfSome, IfNone, Bool, true, false, List, bytes_eq, Option, None, Some, Result, Ok, Err, is_err, OnErr, refl, ap, subst, ◌∙◌, cond, if◌then◌else◌, string_bytes, string_eq, String, option_map}
 use Rattle.std.specs.declared.alloc.Global.{Global}
 use Rattle.std.specs.HashMap.{HashMap, UpdatesBy, get_by_text}
@@ -41,7 +41,7 @@ put_at m n key v bytes place h e s name =
     subst (λ (p : Shown). now ≡ (if bytes_eq (string_bytes key) name then Some p else old)) s own in
     subst (λ (b : List ℕ). now ≡ (if bytes_eq b name then Some place else old)) e placed
 
--- what holds behind an error
+-- what holds after an error
 pub on_error : {A B : Type 0} (r : Result A B) (P : Type 0) → is_err r ≡ true → OnErr r P → P
 on_error (Ok a) P e h = (let bad : ⊥ = cc e in absurd bad)
 on_error (Err b) P e h = h

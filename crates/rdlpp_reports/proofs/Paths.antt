@@ -1,4 +1,4 @@
--- A path behind others, as a key behind keys.
+-- A path after others, as a key after keys.
 use Rattle.std.proofs.Common.{◌≡◌, ℕ, Bool, true, false, List, [], ◌∷◌, ◌++◌, map, Option, Some, refl, ap, sym, ◌∙◌, bytes_eq, if◌then◌else◌, ◌||◌, string_bytes, string_eq, String}
 use Rattle.std.specs.List.{list_any}
 use Rattle.std.specs.declared.alloc.Global.{Global}

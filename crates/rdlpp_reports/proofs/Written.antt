@@ -20,7 +20,7 @@ use Rattle.rdlpp_reports.specs.Definitions.{BeginsWith, continued, definition_li
 use Rattle.rdlpp_reports.specs.Dependencies.{empty_rule, included, prerequisite, quote, rule_name}
 use Rattle.rdlpp_reports.specs.Writes.{Writes}
 
--- A text behind a mark, by whether it is empty.
+-- A text after a mark, by whether it is empty.
 
 -- an empty text
 pub marked-none : (mark text : List ℕ) → length text ≡ 0 → [] ≡ marked_text mark text
@@ -66,14 +66,14 @@ pub flat-split : {A : Type 0} (f : A → List ℕ) (xs : List A) (i : ℕ) (d : 
     → flat_map f xs ≡ flat_map f (take i xs) ++ (f (slice_index_or xs i d) ++ flat_map f (drop (suc i) xs))
 flat-split f xs i d h = grind (arith, take-append-drop i xs, drop-cons xs i d h, flat_map-append)
 
--- a part more was written behind those so far
+-- a part more was written after those so far
 pub flat-grows : {A T E : Type 0} (f : A → List ℕ) (xs : List A) (i : ℕ) (d : A) (old between new : Option (List ℕ)) (x : T) → i < length xs
     → Appends old between (flat_map f (take i xs)) → Writes {E = E} between new (f (slice_index_or xs i d)) (Ok x)
     → Appends old new (flat_map f (take (i + 1) xs))
 flat-grows f xs i d old between new x h done w =
     subst (Appends old new) (sym (flat-take-suc f xs i d h)) (Appends-trans old between new _ _ done (writes_whole between new _ x w))
 
--- a part failed behind those so far
+-- a part failed after those so far
 pub flat-fails : {A T U E F : Type 0} (f : A → List ℕ) (xs : List A) (i : ℕ) (d : A) (old between new : Option (List ℕ)) (e : E) (r : F) → i < length xs
     → Appends old between (flat_map f (take i xs)) → Writes {T = T} between new (f (slice_index_or xs i d)) (Err e)
     → Writes {T = U} old new (flat_map f xs) (Err r)
@@ -126,7 +126,7 @@ pub rules-following : {A : Type 0} (f : A → List ℕ) (xs rest : List A) (path
     → flat_map (λ x. empty_rule (f x)) rest ≡ flat_map empty_rule (included paths)
 rules-following f xs rest paths e p = search (arith, flat_map-map, included-map)
 
--- the sources behind the target
+-- the sources after the target
 pub sources-following : {A : Type 0} (f : A → List ℕ) (xs : List A) (paths : List (List ℕ)) → map f xs ≡ paths
     → flat_map (λ x. prerequisite (f x)) xs ≡ flat_map prerequisite paths
 sources-following f xs paths p = sym (flat_map-map prerequisite f xs) ∙ ap (flat_map prerequisite) p
@@ -175,7 +175,7 @@ pub found_at : (i : ℕ) (found : Option ℕ) → option_map_or (λ n. n == i) f
 found_at i None e = absurd (false≢true e)
 found_at i (Some n) e = ap Some (eqb-true n i e)
 
--- what stands behind the name of a formal
+-- what stands after the name of a formal
 unfoldable pub after_name : Formal → List ℕ → List ℕ
 after_name f rest = (default_bytes f.text ++ 44 ∷ []) ++ rest
 
@@ -184,7 +184,7 @@ pub name_in_front : (bytes rest : List ℕ) (f : Formal) → bytes ≡ formal_by
 unfolding formal_bytes after_name
 name_in_front bytes rest f e = e ∙ append_assoc f.name (default_bytes f.text ++ 44 ∷ []) rest
 
--- the byte behind the front of bytes
+-- the byte after the front of bytes
 index-length : (xs ys : List ℕ) → slice_index (xs ++ ys) (length xs) ≡ slice_index ys 0
 index-length [] ys = refl
 index-length (x ∷ xs) ys = index-length xs ys
@@ -194,7 +194,7 @@ unfolding default_bytes
 first_ends f rest [] e = refl
 first_ends f rest (b ∷ bs) e = refl
 
--- behind a formal's name stands a byte that ends it
+-- after a formal's name stands a byte that ends it
 pub name_ends : (bytes rest : List ℕ) (f : Formal) (len : ℕ) → bytes ≡ f.name ++ after_name f rest → len ≡ length f.name → ends_name (slice_index bytes len) ≡ true
 unfolding after_name
 name_ends bytes rest f len e l = grind (arith, index-length f.name ((default_bytes f.text ++ 44 ∷ []) ++ rest), first_ends f rest f.text refl)
@@ -225,14 +225,14 @@ pub found_name : {X : Type 0} (f : X → List ℕ) (xs : List X) (d : X) (i : �
 found_name f xs d i name e =
     sym ((bytes_eq-Decides (f (get_or xs i d)) name).0 (position-Some (λ x. bytes_eq (f x) name) xs i d (found_at i (position (λ x. bytes_eq (f x) name) xs) e)).1)
 
--- What stands behind a formal and behind a macro in a table's bytes.
+-- What stands after a formal and after a macro in a table's bytes.
 
--- bytes behind a front
+-- bytes after a front
 pub drop_front : (xs ys : List ℕ) → drop (length xs) (xs ++ ys) ≡ ys
 drop_front [] ys = refl
 drop_front (x ∷ xs) ys = drop_front xs ys
 
--- what stands behind a formal's name
+-- what stands after a formal's name
 after_is : (bytes after name rest : List ℕ) (f : Formal) → bytes ≡ formal_bytes f ++ after → name ≡ f.name → rest ≡ drop (length name) bytes → rest ≡ after_name f after
 after_is bytes after name rest f e n r =
     r ∙ (ap (λ l. drop (length l) bytes) n ∙ (ap (drop (length f.name)) (name_in_front bytes after f e) ∙ drop_front f.name (after_name f after)))
@@ -247,33 +247,33 @@ unfolding default_bytes
 tail_default [] after h = absurd (h refl)
 tail_default (b ∷ bs) after h = grind (arith, length-append (b ∷ bs) (44 ∷ []), drop_front)
 
--- what stands behind a formal without a default text
+-- what stands after a formal without a default text
 pub after_plain : (bytes after name rest text : List ℕ) (f : Formal) → bytes ≡ formal_bytes f ++ after → name ≡ f.name → rest ≡ drop (length name) bytes → text ≡ f.text → length text ≡ 0 → drop 1 rest ≡ after
 unfolding after_name
 after_plain bytes after name rest text f e n r t h =
     ap (drop 1) (after_is bytes after name rest f e n r) ∙ tail_plain f.text after (sym (ap length t) ∙ h)
 
--- what stands behind a formal with one
+-- what stands after a formal with one
 pub after_default : (bytes after name rest text : List ℕ) (f : Formal) → bytes ≡ formal_bytes f ++ after → name ≡ f.name → rest ≡ drop (length name) bytes → text ≡ f.text → (length text ≡ 0 → ⊥) → drop (length text + 2) rest ≡ after
 unfolding after_name
 after_default bytes after name rest text f e n r t h =
     ap (λ l. drop (length l + 2) rest) t ∙ (ap (drop (length f.text + 2)) (after_is bytes after name rest f e n r) ∙ tail_default f.text after (λ z. h (ap length t ∙ z)))
 
--- what stands behind a macro's name
+-- what stands after a macro's name
 pub formals_after : (bytes after name rest : List ℕ) (m : Macro) → bytes ≡ macro_bytes m ++ after → name ≡ m.name → rest ≡ drop (length name) bytes → rest ≡ flat_map formal_bytes (drop 0 (formals_of m)) ++ (m.body ++ after)
 unfolding macro_bytes
 formals_after bytes after name rest m e n r = grind (arith, append_assoc, drop_front)
 
--- the formals from a place on are the one at the place, and those behind it
+-- the formals from a place on are the one at the place, and those after it
 pub formals_from : (fs : List Formal) (d : Formal) (place : ℕ) (rest tail : List ℕ) → place < length fs → rest ≡ flat_map formal_bytes (drop place fs) ++ tail
     → rest ≡ formal_bytes (get_or fs place d) ++ (flat_map formal_bytes (drop (place + 1) fs) ++ tail)
 formals_from fs d place rest tail h e = search (arith, drop-cons, append_assoc, add-one)
 
--- behind the last formal
+-- after the last formal
 pub formals_end : (fs : List Formal) (place : ℕ) (rest tail : List ℕ) → length fs ≤ place → rest ≡ flat_map formal_bytes (drop place fs) ++ tail → rest ≡ tail
 formals_end fs place rest tail h e = e ∙ ap (λ l. flat_map formal_bytes l ++ tail) (drop_all place fs h)
 
--- behind a macro's body
+-- after a macro's body
 pub body_after : (rest after body : List ℕ) (m : Macro) → rest ≡ m.body ++ after → body ≡ m.body → drop (length body) rest ≡ after
 body_after rest after body m e b = ap (λ l. drop (length l) rest) b ∙ (ap (drop (length m.body)) e ∙ drop_front m.body after)
 
@@ -282,7 +282,7 @@ pub count_formals : (formals : Option (List Formal)) (arity : Option ℕ) → ar
 count_formals None arity e = ap (λ a. unwrap_or a 0) e
 count_formals (Some fs) arity e = ap (λ a. unwrap_or a 0) e
 
--- the macros from a place on are the one at the place, and those behind it
+-- the macros from a place on are the one at the place, and those after it
 pub macros_from : (ms : List Macro) (place : ℕ) (rest : List ℕ) → place < length ms → rest ≡ flat_map macro_bytes (drop place ms)
     → rest ≡ macro_bytes (macro_at ms place) ++ flat_map macro_bytes (drop (place + 1) ms)
 macros_from ms place rest h e = search (arith, drop-cons, add-one)
@@ -308,7 +308,7 @@ pub record FormalsWritten (fs : List Formal) (place : ℕ) (old new : Option (Li
   pub split : formals_text 0 fs ≡ done ++ formals_text place (drop place fs)
   pub appended : Appends old new (codes "(" ++ done)
 
--- the formal at a place, and those behind it
+-- the formal at a place, and those after it
 part_split : (fs : List Formal) (d : Formal) (place : ℕ) (done : List ℕ) → place < length fs → formals_text 0 fs ≡ done ++ formals_text place (drop place fs)
     → formals_text 0 fs ≡ done ++ (formal_part place (get_or fs place d) ++ formals_text (place + 1) (drop (place + 1) fs))
 part_split fs d place done h e = search (arith, drop-cons, add-one)

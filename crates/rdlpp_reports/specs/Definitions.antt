@@ -5,11 +5,11 @@ use Rattle.std.specs.List.{concat, flat_map, prefix_len}
 use Rattle.rdlpp_scan.specs.Bytes.{is_word}
 use Rattle.rdlpp_define.specs.Macros.{Formal, Macro}
 
--- a byte of a text: an LF stands behind a `\` (IEEE 1364-2001, `define`)
+-- a byte of a text: an LF stands after a `\` (IEEE 1364-2001, `define`)
 abbrev pub continued_byte : ℕ → List ℕ
 continued_byte b = if b == 10 then codes "\\\n" else b ∷ []
 
--- a text whose LF bytes stand behind a `\` each
+-- a text whose LF bytes stand after a `\` each
 abbrev pub continued : List ℕ → List ℕ
 continued text = flat_map continued_byte text
 
@@ -21,7 +21,7 @@ ends_in_slash text = slice_index text (length text - 1) == 92
 abbrev pub goes_on_name : List ℕ → Bool
 goes_on_name body = nat_lt 0 (prefix_len is_word body) || (slice_index body 0 == 40)
 
--- a text behind a mark; nothing where it is empty
+-- a text after a mark; nothing where it is empty
 abbrev pub marked_text : List ℕ → List ℕ → List ℕ
 marked_text mark [] = []
 marked_text mark (b ∷ bs) = mark ++ continued (b ∷ bs)
@@ -30,7 +30,7 @@ marked_text mark (b ∷ bs) = mark ++ continued (b ∷ bs)
 abbrev pub formal_text : Formal → List ℕ
 formal_text f = f.name ++ marked_text (codes "=") f.text
 
--- a formal at a place, behind a comma where it isn't the first
+-- a formal at a place, after a comma where it isn't the first
 abbrev pub formal_part : ℕ → Formal → List ℕ
 formal_part place f = if place == 0 then formal_text f else codes "," ++ formal_text f
 
@@ -62,6 +62,6 @@ definition_lines macros = flat_map definition_line macros
 abbrev pub BeginsWith : List ℕ → List ℕ → Type 0
 BeginsWith bytes front = (rest : List ℕ) × (bytes ≡ front ++ rest)
 
--- whether a byte stands behind a formal's name in a table's bytes
+-- whether a byte stands after a formal's name in a table's bytes
 abbrev pub ends_name : ℕ → Bool
 ends_name b = (b == 61) || (b == 44)

@@ -4,7 +4,7 @@ use Rattle.std.specs.Prelude.{ℕ, Bool, true, List, [], ◌∷◌, ◌++◌, �
 use Rattle.std.specs.List.{concat, flat_map, prefix_len}
 use Rattle.std.specs.Option.{option_map_or}
 
--- whether make takes a byte of a name as it is only behind a `\`: a blank, a tab, `#` and `:` (GNU make, rules; the form of cpp -MD)
+-- whether make takes a byte of a name as it is only after a `\`: a blank, a tab, `#` and `:` (GNU make, rules; the form of cpp -MD)
 abbrev pub is_quoted : ℕ → Bool
 is_quoted b = (b == 32) || ((b == 9) || ((b == 35) || (b == 58)))
 
@@ -12,7 +12,7 @@ is_quoted b = (b == 32) || ((b == 9) || ((b == 35) || (b == 58)))
 abbrev pub leads_to_quoted : List ℕ → Bool
 leads_to_quoted rest = option_map_or is_quoted (slice_get rest (prefix_len (λ b. b == 92) rest)) true
 
--- what stands before a byte of a name, where so much stands behind it: a `\` before a byte that make would take for its own, and before
+-- what stands before a byte of a name, where so much stands after it: a `\` before a byte that make would take for its own, and before
 -- each `\` that stands directly before such a byte or the end; and `$` before `$`
 abbrev pub quote : ℕ → List ℕ → List ℕ
 quote b following = if is_quoted b || ((b == 92) && leads_to_quoted following) then codes "\\" else (if b == 36 then codes "$" else [])
@@ -22,7 +22,7 @@ unfoldable pub rule_name : List ℕ → List ℕ
 rule_name [] = []
 rule_name (b ∷ bs) = concat (quote b bs ∷ (b ∷ []) ∷ []) ++ rule_name bs
 
--- a source behind what stands before it; standard input isn't named (source: this project's profile)
+-- a source after what stands before it; standard input isn't named (source: this project's profile)
 abbrev pub prerequisite : List ℕ → List ℕ
 prerequisite path = if bytes_eq path (codes "-") then [] else codes " \\\n " ++ rule_name path
 

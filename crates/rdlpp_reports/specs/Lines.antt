@@ -37,12 +37,12 @@ pub record LinesView : Type 0 where
 abbrev pub kept_number : ℕ → ℕ
 kept_number n = min n (2 ^ 64 - 1)
 
--- the line behind a line by a step
+-- the line after a line by a step
 abbrev pub next_line : ℕ → LineStep → ℕ
 next_line line Next = kept_number (line + 1)
 next_line line Same = line
 
--- the line so many lines behind a line by a step
+-- the line so many lines after a line by a step
 abbrev pub last_after : ℕ → LineStep → ℕ → ℕ
 last_after line Next count = kept_number (line + count)
 last_after line Same count = line
@@ -111,7 +111,7 @@ gone_on m step count = if count == 0 then m else record m {
 abbrev pub finished : LinesView → LinesView
 finished m = record m { has_run = false; ended = if m.has_run then m.run else m.ended }
 
--- the mark of a step: how many lines each place is behind the one before it; 1 where there is only one (source: this project's profile)
+-- the mark of a step: how many lines each place is after the one before it; 1 where there is only one (source: this project's profile)
 abbrev pub step_bytes : Option LineStep → List ℕ
 step_bytes None = codes "\t1\t"
 step_bytes (Some Next) = codes "\t1\t"

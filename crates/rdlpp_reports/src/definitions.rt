@@ -18,7 +18,7 @@ const MOST_NAME_BYTES: usize = 128;
 
 /// Writes the macros of a table, oldest first, as `define` lines. Read again, they make the same table.
 ///
-/// An LF in a body or a default text stands behind a `\`. What no `define` line can give, a body that ends in `\`, is told by a
+/// An LF in a body or a default text stands after a `\`. What no `define` line can give, a body that ends in `\`, is told by a
 /// comment line in its place: `// not as a define: ` and the name.
 ///
 /// # Errors
@@ -69,7 +69,7 @@ fn is_at(found: &Option<MacroId>, place: usize) -> bool
     }
 }
 
-// What stands behind a macro, with which bytes of a table begin.
+// What stands after a macro, with which bytes of a table begin.
 fn after_macro<'a>(table: &Table, id: MacroId, bytes: &'a [u8]) -> &'a [u8]
     requires { id < length table.now.macros }
     ensures { AreSoundFormals (formals_of (macro_at table.now.macros id)) → (after : List ℕ) → bytes.now ≡ macro_bytes (macro_at table.now.macros id) ++ after → result.now ≡ after }
@@ -81,7 +81,7 @@ fn after_macro<'a>(table: &Table, id: MacroId, bytes: &'a [u8]) -> &'a [u8]
     following(rest, table.body(id).len())
 }
 
-// What stands behind a macro's formal at a place, with which bytes of a table begin.
+// What stands after a macro's formal at a place, with which bytes of a table begin.
 fn after_formal<'a>(table: &Table, id: MacroId, place: usize, bytes: &'a [u8]) -> &'a [u8]
     requires id { id < length table.now.macros }
     requires place { place < length (formals_of (macro_at table.now.macros id)) }
@@ -194,7 +194,7 @@ fn write_formals<W: Write>(
     write_whole(b")", writer)
 }
 
-// Writes the formal at a place, behind a comma where it isn't the first.
+// Writes the formal at a place, after a comma where it isn't the first.
 fn write_formal_at<W: Write>(
     place: usize,
     name: &[u8],
@@ -218,7 +218,7 @@ fn write_formal<W: Write>(name: &[u8], default: &[u8], writer: &mut W) -> io::Re
     write_marked(b"=", default, writer)
 }
 
-// Writes a text behind a mark; nothing where it is empty.
+// Writes a text after a mark; nothing where it is empty.
 fn write_marked<W: Write>(mark: &[u8], text: &[u8], writer: &mut W) -> io::Result<()>
     ensures { Writes (W.contents writer.old) (W.contents writer.new) (marked_text mark.now text.now) result }
 {
@@ -229,7 +229,7 @@ fn write_marked<W: Write>(mark: &[u8], text: &[u8], writer: &mut W) -> io::Resul
     write_continued(text, writer)
 }
 
-// Writes a text whose LF bytes stand behind a `\` each.
+// Writes a text whose LF bytes stand after a `\` each.
 fn write_continued<W: Write>(text: &[u8], writer: &mut W) -> io::Result<()>
     ensures { Writes (W.contents writer.old) (W.contents writer.new) (continued text.now) result }
 {
@@ -239,7 +239,7 @@ fn write_continued<W: Write>(text: &[u8], writer: &mut W) -> io::Result<()>
     Ok(())
 }
 
-// Writes a byte of a text, behind a `\` where it is an LF.
+// Writes a byte of a text, after a `\` where it is an LF.
 fn write_continued_byte<W: Write>(byte: u8, writer: &mut W) -> io::Result<()>
     ensures { Writes (W.contents writer.old) (W.contents writer.new) (continued_byte byte) result }
 {

@@ -13,11 +13,11 @@ use std::io::{self, Write};
 // The path that stands for standard input, which is no file.
 const STANDARD_INPUT: &[u8] = b"-";
 
-/// Writes a rule for make: that the file `target` is made of the sources that were opened, and behind it for each included one a
+/// Writes a rule for make: that the file `target` is made of the sources that were opened, and after it for each included one a
 /// rule without anything, so that make goes on where that file is gone.
 ///
 /// The sources stand in the order in which they were opened, each on a line of its own; standard input, `-`, isn't one of them.
-/// In names a blank, a tab, `#` and `:` stand behind a `\`, as do the `\` directly before them or at the end, and `$` is doubled:
+/// In names a blank, a tab, `#` and `:` stand after a `\`, as do the `\` directly before them or at the end, and `$` is doubled:
 /// so make reads the names as they are. The form is that of `cpp -MD -MP`.
 ///
 /// # Errors
@@ -46,7 +46,7 @@ fn included(paths: &[String]) -> &[String]
     }
 }
 
-// Writes the sources behind the target.
+// Writes the sources after the target.
 fn write_prerequisites<W: Write>(paths: &[String], writer: &mut W) -> io::Result<()>
     ensures { Writes (W.contents writer.old) (W.contents writer.new) (flat_map (λ path. prerequisite (string_bytes path)) paths.now) result }
 {
@@ -56,7 +56,7 @@ fn write_prerequisites<W: Write>(paths: &[String], writer: &mut W) -> io::Result
     Ok(())
 }
 
-// Writes a source behind what stands before it; standard input isn't written.
+// Writes a source after what stands before it; standard input isn't written.
 fn write_prerequisite<W: Write>(path: &[u8], writer: &mut W) -> io::Result<()>
     ensures { Writes (W.contents writer.old) (W.contents writer.new) (prerequisite path.now) result }
 {
@@ -77,7 +77,7 @@ fn write_empty_rules<W: Write>(paths: &[String], writer: &mut W) -> io::Result<(
     Ok(())
 }
 
-// Writes a name as make reads it, and an end behind it.
+// Writes a name as make reads it, and an end after it.
 fn write_name<W: Write>(name: &[u8], end: &[u8], writer: &mut W) -> io::Result<()>
     ensures { Writes (W.contents writer.old) (W.contents writer.new) (rule_name name.now ++ end.now) result }
 {
@@ -89,7 +89,7 @@ fn write_name<W: Write>(name: &[u8], end: &[u8], writer: &mut W) -> io::Result<(
     write_whole(end, writer)
 }
 
-// What stands before a byte of a name, where so much stands behind it.
+// What stands before a byte of a name, where so much stands after it.
 fn quote(byte: u8, following: &[u8]) -> &'static [u8]
     ensures { result.now ≡ quote byte following.now }
 {
@@ -99,7 +99,7 @@ fn quote(byte: u8, following: &[u8]) -> &'static [u8]
     if byte == b'$' { b"$" } else { b"" }
 }
 
-// Whether make takes a byte of a name as it is only behind a `\`.
+// Whether make takes a byte of a name as it is only after a `\`.
 fn is_quoted(byte: u8) -> bool
     ensures { result ≡ is_quoted byte }
 {

@@ -15,7 +15,7 @@ use std::marker::Model;
 const NAME_BYTES: usize = 1_024;
 
 /// Lines of the output whose places follow each other: the first one has the place `name:line`, and each later one that of the
-/// line before it, or the line behind that.
+/// line before it, or the line after that.
 #[derive(Clone, Copy)]
 pub struct LineRun {
     /// The first line of the output, counted from 1.
@@ -131,7 +131,7 @@ impl MappedLines {
         &self.ended
     }
 
-    // Adds the lines that begin in a piece: one at its first byte, where it is the first of a line, and so many behind it. Answers
+    // Adds the lines that begin in a piece: one at its first byte, where it is the first of a line, and so many after it. Answers
     // whether a run ended. It stands apart, so that a piece in which no line begins passes none of it.
     #[inline(never)]
     fn begin_lines<P: Placed>(&mut self, is_first: bool, more: u64, placed: &P) -> bool {
@@ -141,7 +141,7 @@ impl MappedLines {
         ends_first || ends_later
     }
 
-    // Adds so many lines, of which the first one's place is the line behind a position by its step. Answers whether a run ended.
+    // Adds so many lines, of which the first one's place is the line after a position by its step. Answers whether a run ended.
     #[inline(always)]
     fn add_lines(&mut self, position: &Position<'_>, count: u64) -> bool {
         let name = position.name;
@@ -256,7 +256,7 @@ fn may_step(own: Option<LineStep>, step: LineStep) -> bool
     }
 }
 
-// The line behind a line by a step.
+// The line after a line by a step.
 fn next_line(line: u64, step: LineStep) -> u64
     ensures { result ≡ next_line line step }
 {
@@ -276,7 +276,7 @@ pub fn write_map_start<W: Write>(writer: &mut W) -> io::Result<()>
     write_whole(b"# rdlpp line map 1\n", writer)
 }
 
-/// Writes a run as a line of a line map file: the output's line, the shown line, how many lines each later one is behind the one
+/// Writes a run as a line of a line map file: the output's line, the shown line, how many lines each later one is after the one
 /// before it, 1 or 0, and the shown name, with a tab between them.
 ///
 /// # Errors

@@ -5,7 +5,7 @@ use std::io::{self, Write};
 
 /// Writes the line map of the output that it is shown, run by run.
 ///
-/// The first error of the writer is kept, and nothing is written behind it.
+/// The first error of the writer is kept, and nothing is written after it.
 #[derive(Drop)]
 pub struct MapWriter<W> {
     lines: MappedLines,

@@ -24,7 +24,7 @@ struct ShownPlace {
 
 /// Where macros were defined, as far as that was noted.
 ///
-/// Behind a definition it holds the name and the place of each macro of the table that was noted, and of as many others and 65 at
+/// After a definition it holds the name and the place of each macro of the table that was noted, and of as many others and 65 at
 /// most.
 #[derive(Drop)]
 pub struct DefinitionPlaces {

@@ -57,7 +57,7 @@ impl OpenedPaths {
         self.files.contains(&file)
     }
 
-    // Notes a source behind the others, unless its file or its path is here.
+    // Notes a source after the others, unless its file or its path is here.
     fn note(&mut self, path: &str, file: Option<FileId>)
         ensures { NotesOpening self.old self.new (record { path = path.now; file = file }) }
     {
@@ -71,7 +71,7 @@ impl OpenedPaths {
         }
     }
 
-    // Notes a path behind the others, unless it is here.
+    // Notes a path after the others, unless it is here.
     #[tactic(auto, using(crate::proofs::Paths::noted_key))]
     fn note_path(&mut self, path: &str)
         ensures { NotesPath self.old self.new path.now }

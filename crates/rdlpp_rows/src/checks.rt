@@ -2,7 +2,7 @@
 use crate::asking::asks_as_wanted;
 use crate::devices::{Devices, Failing, SLOW, WHOLE, with_calls};
 use crate::pieces::has_its_pieces;
-use crate::renewed::comes_to_the_same_behind;
+use crate::renewed::comes_to_the_same_renewed;
 use crate::row::Row;
 use crate::runs::{Ended, Job, preprocess_row, run_row};
 use rdlpp::FaultKind;
@@ -15,7 +15,7 @@ const SHORT: usize = 400;
 // The most calls of a device.
 const MOST_CALLS: u64 = 100_000;
 
-/// What isn't as it has to be with a row, alone and behind the row before it; nothing where all is.
+/// What isn't as it has to be with a row, alone and after the row before it; nothing where all is.
 pub fn failed_check(
     alloc: Global,
     before: &Row,
@@ -47,7 +47,7 @@ pub fn failed_check(
     if failed.is_some() || row.devices.is_some() {
         return Ok(failed);
     }
-    if !comes_to_the_same_behind(alloc, &before, &job)? {
+    if !comes_to_the_same_renewed(alloc, &before, &job)? {
         return Ok(Some("in a renewed engine"));
     }
     Ok(None)

@@ -19,7 +19,7 @@ pub struct Devices {
     pub takes_nothing: bool,
     /// How many flushes go well.
     pub flushes: u64,
-    /// The byte that comes for ever behind each text, where one does.
+    /// The byte that comes for ever after each text, where one does.
     pub endless: Option<u8>,
 }
 

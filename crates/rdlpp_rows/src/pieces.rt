@@ -41,7 +41,7 @@ impl<'a> Left<'a> {
 }
 
 /// Whether the pieces of a row are its output, each of them one write of a run, and then its end, which stays; and whether what is
-/// held is within the limits behind each piece, and at the end what the row wants.
+/// held is within the limits after each piece, and at the end what the row wants.
 pub fn has_its_pieces(alloc: Global, job: &Job<'_>) -> Result<bool, AllocError> {
     let Some(ran) = run_row(alloc, job, WHOLE)? else {
         return Ok(true);

@@ -15,7 +15,7 @@ const NOTHING_HELD: Held = Held {
     sources: 0,
 };
 
-// How the row before ends: whole; where the second search, the fourth read or the third write fails; or behind so many pieces.
+// How the row before ends: whole; where the second search, the fourth read or the third write fails; or after so many pieces.
 #[derive(Clone, Copy)]
 enum Ending {
     Run(Devices),
@@ -37,7 +37,7 @@ const ENDINGS: [Ending; 7] = [
 
 /// Whether a row comes to what it wants in an engine that ran another row before and was renewed: one of its own limits, in which
 /// the other row ended in each of some ways.
-pub fn comes_to_the_same_behind<'a>(
+pub fn comes_to_the_same_renewed<'a>(
     alloc: Global,
     before: &Job<'a>,
     job: &Job<'a>,

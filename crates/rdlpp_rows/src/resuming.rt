@@ -1,4 +1,4 @@
-// Outputs that go on: a run behind one that stopped, and reads over steps without bytes.
+// Outputs that go on: a run after one that stopped, and reads over steps without bytes.
 use crate::devices::{DealtTexts, Devices, WHOLE};
 use rdlpp::{Counted, Limits, OpenSource, Placed, Sources, Table, Texts, Watcher};
 use rdlpp_expand::{Engine, Reading, run, run_watched};
@@ -91,9 +91,9 @@ fn started<S: Sources>(alloc: Global, sources: S) -> Result<Option<Engine<S>>, A
 }
 
 // Whether a read takes no more steps over ten doublings of nothing before each of fifty bytes than over nothing alone, so that it
-// comes back behind some of them, and reads on and on give all.
+// comes back after some of them, and reads on and on give all.
 fn comes_back_between_bytes(alloc: Global) -> Result<bool, AllocError> {
-    let source = bytes_behind_doublings(alloc)?;
+    let source = bytes_after_doublings(alloc)?;
     let files = [("m", source.as_slice())];
     let texts = Texts {
         files: &files,
@@ -124,7 +124,7 @@ fn comes_back_between_bytes(alloc: Global) -> Result<bool, AllocError> {
 }
 
 // Ten doublings of nothing before each of fifty bytes.
-fn bytes_behind_doublings(alloc: Global) -> Result<Vec<u8>, AllocError> {
+fn bytes_after_doublings(alloc: Global) -> Result<Vec<u8>, AllocError> {
     let mut source = Vec::from_slice(alloc, b"`define E0\n")?;
     for number in 0..10_u32 {
         let next = number.saturating_add(1);

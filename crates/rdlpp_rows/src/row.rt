@@ -13,7 +13,7 @@
 //     asked SEARCHES READS FLUSHES  how often its texts are searched and read, a byte a read, and its output is flushed
 //     found PATH                    the main text is found under another path than the one that is asked for
 //     devices searches COUNT        so many searches go well, and the later ones fail; also `reads COUNT` and `writes COUNT`, and
-//                                   `endless BYTE`, a byte by its number, which comes for ever behind each text. It is run so alone
+//                                   `endless BYTE`, a byte by its number, which comes for ever after each text. It is run so alone
 //     memory                        the row is one of texts in memory: the scripts over files leave it out
 //
 // A word, a path and a text are spelled as `spelled` reads them.

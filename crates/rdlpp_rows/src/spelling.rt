@@ -78,7 +78,7 @@ fn append(bytes: &mut Vec<u8>, text: &str) -> Result<(), AllocError> {
     Ok(())
 }
 
-// Appends what a byte gives behind such a beginning, and answers what has begun with it.
+// Appends what a byte gives after such a beginning, and answers what has begun with it.
 fn append_byte(bytes: &mut Vec<u8>, escape: Escape, byte: u8) -> Result<Escape, AllocError> {
     match (escape, byte) {
         (Escape::None, b'\\') => return Ok(Escape::Backslash),

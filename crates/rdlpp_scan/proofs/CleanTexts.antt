@@ -96,7 +96,7 @@ left-line (b ∷ bs) next =
     let front : (n : ℕ) → 0 < n → get_or (take n (b ∷ bs) ++ later) 0 0 ≡ b = λ n. elim n as (λ (k : ℕ). 0 < k → get_or (take k (b ∷ bs) ++ later) 0 0 ≡ b) [ zero ↦ λ h. absurd (omega arith) | suc k ↦ λ _. refl ] in
     inr (ap (λ xs. get_or xs 0 0) whole ∙ front t.len part.not_empty ∙ ten)
 
--- what is left behind a `//` comment is empty or begins with LF
+-- what is left after a `//` comment is empty or begins with LF
 left-after_comment : (m : Mode) (bs : List ℕ) → 0 < length bs → is_line_comment (token_of m bs).kind ≡ true → NextIsLine (left m bs)
 unfolding whole
 left-after_comment m bs some is = grind (arith, comment_at, left-comment, left-line, comment-next)
@@ -126,7 +126,7 @@ next_token m bs some more =
     let front = tokens_from-front (t ∷ u ∷ []) us m bs two in
     ap (token_of m) (sym (take-add t.len u.len bs)) ∙ ap (λ i. token_of m (take i bs)) (sym len) ∙ (tokens_from-first m (take (t.len + (u.len + 0)) bs) t (u ∷ []) front).1.0
 
--- the first token of a text stays so where what is behind it loses its `//` comments
+-- the first token of a text stays so where what is after it loses its `//` comments
 kept_at : (m : Mode) (bs : List ℕ) → 0 < length bs → (rest : List ℕ) → drop (token_of m bs).len bs ≡ rest → token_of m (take (token_of m bs).len bs ++ left (token_of m bs).next_mode rest) ≡ token_of m bs
 unfolding tokens_from other_texts NextIsLine
 kept_at m bs some [] e = ap (token_of m) (append-nil (take (token_of m bs).len bs)) ∙ own_token m bs some
@@ -267,7 +267,7 @@ without-fault m bs = ap (fault_of_tokens m) (left_tokens (length bs) m bs (omega
 
 -- Texts without a lexical fault and without `//` comments: their tokens, their fronts, and what is left of them without spaces at
 
--- the fault of what stands behind a token
+-- the fault of what stands after a token
 abbrev fault_after : Token → List ℕ → Option LexFault
 fault_after t bs = fault_of_tokens t.next_mode (tokens_from t.next_mode 0 (drop t.len bs))
 
@@ -278,7 +278,7 @@ open_is_fault Plain bs at e ok = refl
 open_is_fault InStr bs at e ok = let bad = fault-end InStr bs at (omega arith) in absurd (cc)
 open_is_fault InBlock bs at e ok = let bad = fault-end InBlock bs at (omega arith) in absurd (cc)
 
--- a token with no fault behind it leaves plain text behind it
+-- a token with no fault after it leaves plain text after it
 closed_by_seam : (bs : List ℕ) (t u : Token) → Seam bs [] t u → fault_after t bs ≡ None → t.next_mode ≡ Plain
 unfolding token_of is_perl whole
 closed_by_seam bs t u (Closed e h) ok = h
@@ -342,7 +342,7 @@ pub clean_nothing : IsCleanText []
 unfolding tokens_from
 clean_nothing = clean_of_tokens [] tt
 
--- a text that is cut behind clean tokens is clean
+-- a text that is cut after clean tokens is clean
 pub clean_front : (ts us : List Token) (text : List ℕ) → tokens_from Plain 0 text ≡ ts ++ us → AllByRecursion IsCleanToken ts → IsCleanText (take (tokens_len ts) text)
 clean_front ts us text e all = grind (arith, clean_of_tokens, tokens_from-front)
 
@@ -415,7 +415,7 @@ record Cut (class : ℕ → Bool) (bs : List ℕ) : Type 0 where
   spaces : (k : ℕ) → tokens_len front ≤ k → k < length bs → class (get_or bs k 0) ≡ true
   ends : EndsAt class bs (tokens_len front)
 
--- what a text has behind some bytes
+-- what a text has after some bytes
 following-get : (class : ℕ → Bool) (n k : ℕ) (bs : List ℕ) → n ≤ k → class (get_or (drop n bs) (k - n) 0) ≡ true → class (get_or bs k 0) ≡ true
 following-get class n k bs le h = sym (ap class (get_or-drop n bs (k - n) 0 ∙ ap (λ i. get_or bs i 0) (omega arith))) ∙ h
 
@@ -479,7 +479,7 @@ cut_clean class are (suc fuel) (b ∷ bs) le all =
       | AtOther k len other ↦ cut_right_after class T t step_plain part.inside c k len other
     ]
 
--- a place of a text up to which it is clean, behind which spaces alone stand, and before which none does; it stands behind some of
+-- a place of a text up to which it is clean, after which spaces alone stand, and before which none does; it stands after some of
 -- the text's tokens
 pub record IsCleanTo (class : ℕ → Bool) (text : List ℕ) (n : ℕ) : Type 0 where
   pub front : List Token
@@ -521,7 +521,7 @@ plain_before Plain bs shut sound = refl
 plain_before InStr bs shut sound = grind (arith, cond_both, false≢true, string_token-kind)
 plain_before InBlock bs shut sound = absurd (false≢true (sym shut ∙ ap opens_mode (block_token-kind 0 bs)))
 
--- tokens without `<%` have no fault but that of what is open behind them
+-- tokens without `<%` have no fault but that of what is open after them
 soundly_open : (m : Mode) (ts : List Token) → AllByRecursion (λ t. is_perl t.kind ≡ false) ts → fault_of_tokens m ts ≡ open_fault (mode_after m ts)
 unfolding fault_of_tokens mode_after
 soundly_open m [] all = refl

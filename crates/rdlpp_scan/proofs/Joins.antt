@@ -81,7 +81,7 @@ begins_with (b ∷ c ∷ cs) h =
       ]
     ]
 
--- the first byte that is read, and the text behind it
+-- the first byte that is read, and the text after it
 pub record ReadsFirst (is_logical : Bool) (text : List ℕ) (len : ℕ) : Type 0 where
   pub some : 0 < len
   pub inside : len ≤ length text
@@ -252,7 +252,7 @@ pub data Reaches : ℕ → ℕ → List ℕ → List ℕ → Type 0 where
   PastLine : (n m : ℕ) (raw text : List ℕ) → Reaches n m raw text → Reaches (suc (suc n)) (suc m) (92 ∷ 10 ∷ raw) (10 ∷ text)
   PastReturn : (n m : ℕ) (raw text : List ℕ) → Reaches n m raw text → Reaches (suc (suc (suc n))) (suc m) (92 ∷ 13 ∷ 10 ∷ raw) (10 ∷ text)
 
--- what stands behind
+-- what stands after
 pub reaches_after : (n m : ℕ) (raw text : List ℕ) → Reaches n m raw text → Joins (drop n raw) (drop m text)
 reaches_after n m raw text (Here r t j) = j
 reaches_after n m raw text (PastByte i k b r t e p) = reaches_after i k r t p
@@ -278,14 +278,14 @@ reaches_front n m raw text (PastReturn i k r t p) = Return (take i r) (take k t)
 pub reaches_at : (n m i k : ℕ) (raw text : List ℕ) → n ≡ i → m ≡ k → Reaches n m raw text → Reaches i k raw text
 reaches_at n m i k raw text e f p = subst (λ x. Reaches x k raw text) e (subst (λ x. Reaches n x raw text) f p)
 
--- one way behind another
+-- one way after another
 pub reaches_on : (n m : ℕ) (raw text : List ℕ) → Reaches n m raw text → (i k : ℕ) → Reaches i k (drop n raw) (drop m text) → Reaches (n + i) (m + k) raw text
 reaches_on n m raw text (Here r t j) i k q = reaches_at i k (0 + i) (0 + k) r t (omega arith) (omega arith) q
 reaches_on n m raw text (PastByte x y b r t e p) i k q = reaches_at (suc (x + i)) (suc (y + k)) (suc x + i) (suc y + k) (b ∷ r) (b ∷ t) (omega arith) (omega arith) (PastByte (x + i) (y + k) b r t e (reaches_on x y r t p i k q))
 reaches_on n m raw text (PastLine x y r t p) i k q = reaches_at (suc (suc (x + i))) (suc (y + k)) (suc (suc x) + i) (suc y + k) (92 ∷ 10 ∷ r) (10 ∷ t) (omega arith) (omega arith) (PastLine (x + i) (y + k) r t (reaches_on x y r t p i k q))
 reaches_on n m raw text (PastReturn x y r t p) i k q = reaches_at (suc (suc (suc (x + i)))) (suc (y + k)) (suc (suc (suc x)) + i) (suc y + k) (92 ∷ 13 ∷ 10 ∷ r) (10 ∷ t) (omega arith) (omega arith) (PastReturn (x + i) (y + k) r t (reaches_on x y r t p i k q))
 
--- whether more stands behind
+-- whether more stands after
 pub record SameEnd (n a m b : ℕ) : Type 0 where
   pub there : n < a → m < b
   pub back : m < b → n < a

@@ -157,7 +157,7 @@ pub same_next : (old new : Cleared) (o : Option ℕ) → IsNext old (Ok o) new �
 unfolding IsNext
 same_next old new o n e = let P : Option ℕ → Type 0 = λ x. IsNext old (Ok x) new in (subst P e n).1
 
--- what stands behind what is left doesn't change
+-- what stands after what is left doesn't change
 pub after_onto : (old new : Cleared) (xs : List ℕ) → old ≡ onto xs new → text_after old ≡ text_after new
 unfolding onto text_after
 after_onto old (Sound rest last) xs e = ap text_after e
@@ -254,7 +254,7 @@ sound_after rest (Unsound fault) b e s = absurd (false≢true (sym (ap is_sound 
 pub copied_same : (items items' old more : List ℕ) (n n' : ℕ) (rest : Cleared) → items' ≡ items → n' ≡ n → IsCopied items old more n rest → IsCopied items' old more n' rest
 copied_same items items' old more n n' rest e f c = rw (e, f) c
 
--- what stands behind a text that is read to its end
+-- what stands after a text that is read to its end
 pub after_none : (o : Option ℕ) (x y : List ℕ) → IfNone o (x ≡ y) → o ≡ None → x ≡ y
 after_none o x y h e = let Q : Option ℕ → Type 0 = λ n. IfNone n (x ≡ y) in subst Q e h
 

@@ -103,7 +103,7 @@ ordinary_within k c l [] x fuel inert edge = nothing-ordinary c l x
 ordinary_within zero c l (b ∷ w) x fuel inert edge = absurd (omega arith)
 ordinary_within (suc k) c l (b ∷ w) x fuel inert edge = ordinary_more c l b w x inert edge (λ d m v y short. ordinary_within k d m v y (omega arith))
 
--- ordinary text with something behind it
+-- ordinary text with something after it
 pub ordinary_text : (c : Course) (l : ℕ) (w x : List ℕ) → length w ≤ plain_len (w ++ x) → IsEdge w x → IsOrdinary c l w x
 unfolding plain_len Quiet
 ordinary_text c l w x inside edge =
@@ -145,7 +145,7 @@ ordinary_front c l held more ends =
 
 -- A token of a source that is one of the token table is the first token of its text.
 
--- a token of a source is the token of a text, which leaves plain text behind it
+-- a token of a source is the token of a text, which leaves plain text after it
 pub record IsTokenOf (v : Token) (bs : List ℕ) (t : SourceToken) : Type 0 where
   pub sort : t.sort ≡ Ordinary v.kind
   pub bytes : t.bytes ≡ take v.len bs
@@ -298,7 +298,7 @@ passed_part bytes at count more lines before fits inert is =
 
 -- The bits of a mask.
 
--- a mask is its first bits and those behind them
+-- a mask is its first bits and those after them
 mask_parts : (k : ℕ) (ms : List Bool) → k ≤ length ms → mask_l ms ≡ mask_l (drop k ms) * 2 ^ k + mask_l (take k ms)
 mask_parts zero ms le = omega arith
 mask_parts (suc k) [] le = absurd (omega arith)

@@ -1,4 +1,4 @@
--- The tokens of a range of a text, and of a text with more behind it.
+-- The tokens of a range of a text, and of a text with more after it.
 use Rattle.std.proofs.Common.{◌≡◌, ◌⊎◌, ℕ, suc, ◌+◌, ◌<◌, ◌≤◌, Bool, true, false, not, cond, ◌||◌, ◌&&◌, eqb, List, ◌∷◌, ◌++◌, length, get_or, take, drop, refl, sym, ap, ◌∙◌, subst, inl, inr, ⊎_elim, arith, eqb-true, ltb-false, lt-ltb, ltb-true, append-nil, length-append, length-drop, get_or-drop, drop-drop, length-take, take-append-drop, []}
 use Rattle.std.specs.List.{prefix_len}
 use Rattle.std.proofs.Math.Bool.{and-false}
@@ -94,7 +94,7 @@ agrees-cond : (xs : List ℕ) (b c : Bool) (t t' u u' : Token) → c ≡ b → (
 agrees-cond xs true c t t' u u' e left right = subst (λ d. Agrees xs t (cond d u u')) (sym e) (left refl)
 agrees-cond xs false c t t' u u' e left right = subst (λ d. Agrees xs t' (cond d u u')) (sym e) (right refl)
 
--- a row that the front doesn't pass, since its second byte is behind it
+-- a row that the front doesn't pass, since its second byte is after it
 agrees-past : (xs : List ℕ) (b c : Bool) (t t' u u' : Token) → b ≡ false → (c ≡ true → EndsIn u xs → ⊥) → (c ≡ false → Agrees xs t' u') → Agrees xs (cond b t t') (cond c u u')
 agrees-past xs b true t t' u u' e left right = λ h. absurd (left refl h)
 agrees-past xs b false t t' u u' e left right = subst (λ d. Agrees xs (cond d t t') u') (sym e) (right refl)
@@ -193,7 +193,7 @@ token_of-front InStr (b ∷ c ∷ w) ys some =
     agrees-cond xs (begins_perl xs) _ _ _ _ _ refl (λ _. agrees-whole xs Perl 2 2 (λ _. refl)) (λ _. agrees-string 0 xs ys (omega arith))
 token_of-front InBlock (b ∷ w) ys some = agrees-block 0 (b ∷ w) ys (omega arith)
 
--- a token that is open with more behind it stands before `<%`
+-- a token that is open with more after it stands before `<%`
 open_before_perl : (bs : List ℕ) (t u : Token) → Seam bs [] t u → t.len < length bs → (t.next_mode ≡ Plain) ⊎ ((t.next_mode ≡ InStr) × (begins_perl (drop t.len bs) ≡ true))
 open_before_perl bs t u (Closed e closed) lt = inl closed
 open_before_perl bs t u (BeforePerl e is inside perl) lt = inr (ap (λ (v : Token). v.next_mode) is, perl)
@@ -233,13 +233,13 @@ next_long m bs t u us some is rest =
     let first : (token_of InStr (drop t.len bs)).len ≡ u.len = ap (λ (d : Mode). (token_of d (drop t.len bs)).len) (sym p.0) ∙ ap (λ (v : Token). v.len) next.1.0 in
     inr (omega arith, omega (arith, next.0, size))) (open_before_perl bs t (token_of m (bs ++ [])) seam (omega (arith, next.0, size)))
 
--- a token ends in the front that is cut behind it and some more
+-- a token ends in the front that is cut after it and some more
 ends_in : (m : Mode) (bs : List ℕ) (t : Token) (ts us : List Token) → 0 < length bs → token_of m bs ≡ t → tokens_from t.next_mode 0 (drop t.len bs) ≡ ts ++ us → EndsIn t (take (t.len + tokens_len ts) bs)
 unfolding tokens_len
 ends_in m bs t [] us some is rest = grind (arith, token_of-part, length-take)
 ends_in m bs t (u ∷ ts) us some is rest = grind (arith, token_of-part, length-take, next_long)
 
--- a front of a text that is cut behind some of its tokens has those tokens
+-- a front of a text that is cut after some of its tokens has those tokens
 pub tokens_from-front : (ts us : List Token) (m : Mode) (bs : List ℕ) → tokens_from m 0 bs ≡ ts ++ us → tokens_from m 0 (take (tokens_len ts) bs) ≡ ts
 unfolding tokens_len tokens_from
 tokens_from-front [] us m bs e = refl
@@ -258,7 +258,7 @@ tokens_from-front (t ∷ ts) us m bs e =
     ∙ ap (λ z. t ∷ tokens_from t.next_mode 0 z) (drop-take t.len k bs)
     ∙ ap (λ us. t ∷ us) (tokens_from-front ts us t.next_mode (drop t.len bs) p.1.1)
 
--- the tokens behind some are those of the text behind their bytes
+-- the tokens after some are those of the text after their bytes
 pub tokens_from-after_some : (ts us : List Token) (m : Mode) (bs : List ℕ) → tokens_from m 0 bs ≡ ts ++ us → tokens_from (mode_after m ts) 0 (drop (tokens_len ts) bs) ≡ us
 unfolding tokens_len mode_after
 tokens_from-after_some [] us m bs e = e
@@ -266,13 +266,13 @@ tokens_from-after_some (t ∷ ts) us m bs e =
     let p = tokens_from-first m bs t (ts ++ us) e in
     ap (tokens_from (mode_after t.next_mode ts) 0) (sym (drop-drop (tokens_len ts) t.len bs)) ∙ tokens_from-after_some ts us t.next_mode (drop t.len bs) p.1.1
 
--- A token that ends before the end of a text stays so with more behind it.
+-- A token that ends before the end of a text stays so with more after it.
 
 -- a token that ends before the end of a text
 record EndsBefore (t : Token) (xs : List ℕ) : Type 0 where
   lt : t.len < length xs
 
--- the token of a text with more behind it is that of the text, where that one ends before the text's end
+-- the token of a text with more after it is that of the text, where that one ends before the text's end
 abbrev Stays : List ℕ → Token → Token → Type 0
 Stays xs t u = EndsBefore t xs → u ≡ t
 
@@ -360,7 +360,7 @@ plain-stays b c w ys =
     stays-cond xs (is_closer b) _ _ _ _ (λ _. one Closer) (λ _.
     stays-cond xs (eqb b 44) _ _ _ _ (λ _. one Comma) (λ _. one Other))))))))))))))
 
--- the first token of a text, where it ends before the text's end, stays so with more behind the text
+-- the first token of a text, where it ends before the text's end, stays so with more after the text
 pub token_of-stays : (m : Mode) (xs ys : List ℕ) → (token_of m xs).len < length xs → token_of m (xs ++ ys) ≡ token_of m xs
 unfolding token_of begins_perl
 token_of-stays m [] ys lt = absurd (omega arith)
@@ -371,9 +371,9 @@ token_of-stays InStr (b ∷ c ∷ w) ys lt =
     stays-cond xs (begins_perl xs) _ _ _ _ (λ _. stays-whole xs Perl 2 2 (λ _. refl)) (λ _. stays-string 0 xs ys (omega arith)) (record { lt = lt })
 token_of-stays InBlock (b ∷ c ∷ w) ys lt = stays-block 0 (b ∷ c ∷ w) ys (omega arith) (record { lt = lt })
 
--- A closed token that is no `//` comment stays so with a `,` behind its text.
+-- A closed token that is no `//` comment stays so with a `,` after its text.
 
--- the token of a text with more behind it is that of the text, where that one is clean
+-- the token of a text with more after it is that of the text, where that one is clean
 abbrev Holds : Token → Token → Type 0
 Holds t u = IsCleanToken t → u ≡ t
 
@@ -449,7 +449,7 @@ plain-comma b w ys =
     holds-cond (is_closer b) _ _ _ _ _ refl (λ _. one Closer) (λ _.
     holds-cond (eqb b 44) _ _ _ _ _ refl (λ _. one Comma) (λ _. one Other))))))))))))))
 
--- the first token of a text, where it is clean, stays so with a `,` behind the text
+-- the first token of a text, where it is clean, stays so with a `,` after the text
 pub clean_before_comma : (xs ys : List ℕ) → 0 < length xs → IsCleanToken (token_of Plain xs) → token_of Plain (xs ++ 44 ∷ ys) ≡ token_of Plain xs
 unfolding token_of
 clean_before_comma [] ys some clean = absurd (omega arith)

@@ -25,7 +25,7 @@ use Rattle.rdlpp_scan.proofs.StopKinds.{block_token-kind, string_token-kind}
 
 -- What remains of a source, step by step, as the engine takes it: `held` ends at a line end or at the text's end.
 
--- what breaks or ends a source behind the text that is held
+-- what breaks or ends a source after the text that is held
 pub record IsAfter (held rest more : List ℕ) (break : Option Break) : Type 0 where
   pub ends : EndsLine held more
   pub last : IsWholeLines held ⊎ ((more ≡ []) × (break ≡ None))
@@ -34,11 +34,11 @@ pub record IsAfter (held rest more : List ℕ) (break : Option Break) : Type 0 w
 pub following : (most room : ℕ) (held rest : List ℕ) → EndsLine held rest → IsAfter held rest (front most room rest).text (front most room rest).break
 following most room held rest = grind (arith, front-none)
 
--- the course of a source with this behind it
+-- the course of a source with this after it
 abbrev pub course : ℕ → ℕ → List ℕ → Course
 course most room rest = record { most = most; break = (front most room rest).break }
 
--- of what is held, ordinary text w goes through, and what is behind it remains
+-- of what is held, ordinary text w goes through, and what is after it remains
 pub record GoesThrough (most l : ℕ) (held w following : List ℕ) (room : ℕ) (rest : List ℕ) : Type 0 where
   pub tokens : List SourceToken
   pub steps : (o p : ℕ) → remaining_tokens most Plain o l held room rest ≡ tokens ++ remaining_tokens most Plain p (l + line_ends w) following room rest
@@ -139,7 +139,7 @@ unfolding remaining_tokens
 remaining-logical most o l held room rest n h is fits =
     step-logical (course most room rest) o l held (front most room rest).text n (begins most held room rest h) is fits
 
--- a first line is as long with anything behind it
+-- a first line is as long with anything after it
 first_line-within : (bs more : List ℕ) → line_len bs ≤ line_len (take (line_len bs) bs ++ more)
 unfolding line_len
 first_line-within [] more = omega arith
@@ -152,7 +152,7 @@ first_line-ends [] = inr refl
 first_line-ends (b ∷ []) = grind arith
 first_line-ends (b ∷ c ∷ cs) = grind (arith, line_len-some, length-take-le, line_len-le, whole_one, (first_line-ends (c ∷ cs)))
 
--- tokens by the front that is behind what is held
+-- tokens by the front that is after what is held
 of_front : ℕ → ℕ → ℕ → List ℕ → Front → List SourceToken
 of_front most o l held f = source_tokens (record { most = most; break = f.break }) Plain o l 0 (held ++ f.text)
 
@@ -261,7 +261,7 @@ unfolding comment_step
 comment_by_mode c o l k n Plain bs is = NextText k (take n bs) l (inr is) refl
 comment_by_mode c o l k n _ bs is = open_end-breaks c CommentOpen o l (take n bs)
 
--- the tokens behind a step
+-- the tokens after a step
 unfoldable pub after_step : (c : Course) (l b : ℕ) (bs : List ℕ) → Step → List SourceToken
 after_step c l b bs (Last t) = t ∷ []
 after_step c l b bs (Next t) = t ∷ source_tokens c Plain l (line_after b l) (length t.bytes - 1) bs

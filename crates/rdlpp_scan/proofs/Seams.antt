@@ -34,7 +34,7 @@ pub line_end-ten : (b : ℕ) → is_line_end b ≡ true → b ≡ 10
 unfolding is_line_end
 line_end-ten b h = eqb-true b 10 h
 
--- a test of two bytes, which LF doesn't pass, isn't changed by what is behind a cut
+-- a test of two bytes, which LF doesn't pass, isn't changed by what is after a cut
 pub pair-append : (f g : ℕ → Bool) → f 10 ≡ false → g 10 ≡ g 0 → (xs ys : List ℕ) → 0 < length xs → IsCut xs ys → (f (get_or (xs ++ ys) 0 0) && g (get_or (xs ++ ys) 1 0)) ≡ (f (get_or xs 0 0) && g (get_or xs 1 0))
 pair-append f g first second [] ys some cut = absurd (omega arith)
 pair-append f g first second (b ∷ c ∷ xs) ys some cut = refl
@@ -97,7 +97,7 @@ unfolding string_stop begins_perl
 string_stop-ten true (y ∷ ys) ten = grind arith
 string_stop-ten _ ys ten = refl
 
--- behind a cut a string goes on as at its beginning
+-- after a cut a string goes on as at its beginning
 string_stop-following : (xs ys : List ℕ) → IsCut xs ys → string_stop (still_taken false xs) ys ≡ string_stop false ys
 unfolding still_taken string_stop
 string_stop-following [] ys cut = refl
@@ -168,7 +168,7 @@ abbrev pub longer : ℕ → Token → Token
 longer n t = record { kind = t.kind; len = n + t.len; next_mode = t.next_mode }
 
 -- the first token of a cut text, and that of the whole text: the same, which is closed or stands before `<%`,
--- or a string, or a block comment, that goes on behind the cut
+-- or a string, or a block comment, that goes on after the cut
 pub data Seam (xs ys : List ℕ) (t u : Token) : Type 0 where
   Closed : u ≡ t → t.next_mode ≡ Plain → Seam xs ys t u
   BeforePerl : u ≡ t → t ≡ record { kind = Str; len = t.len; next_mode = InStr } → t.len < length xs → begins_perl (drop t.len xs) ≡ true → Seam xs ys t u
@@ -359,7 +359,7 @@ token_of-seam InStr (b ∷ w) ys some cut =
     seam-cond xs ys _ _ _ _ _ _ (begins_perl-append xs ys some cut) (λ _. whole-seam xs ys Perl 2 2 refl) (λ _. string-seam 0 xs ys (omega arith) cut)
 token_of-seam InBlock (b ∷ w) ys some cut = block-seam 0 (b ∷ w) ys (omega arith) cut
 
--- What a text that ends at a line end tells of itself stays so with more behind it.
+-- What a text that ends at a line end tells of itself stays so with more after it.
 
 -- a text that ends at a line end is cut there
 pub IsCut-from_line : (held more : List ℕ) → EndsLine held more → IsCut held more
@@ -381,7 +381,7 @@ closed_seam xs ys t u closed (BeforePerl e is lt perl) = e
 closed_seam xs ys t u closed (OpenString is e) = let open_mode = ap (λ (v : Token). v.next_mode) is in absurd (cc)
 closed_seam xs ys t u closed (OpenComment is e) = let open_mode = ap (λ (v : Token). v.next_mode) is in absurd (cc)
 
--- a token that is closed is the same with more behind the line
+-- a token that is closed is the same with more after the line
 pub token_of-append : (held more : List ℕ) → 0 < length held → EndsLine held more → (token_of Plain held).next_mode ≡ Plain → token_of Plain (held ++ more) ≡ token_of Plain held
 token_of-append held more some ends closed =
     closed_seam held more (token_of Plain held) (token_of Plain (held ++ more)) closed (token_of-seam Plain held more some (IsCut-from_line held more ends))
@@ -410,7 +410,7 @@ join_onto-open : (t u : Token) (us : List Token) → is_open t.next_mode ≡ tru
 unfolding join_onto
 join_onto-open t u us is_so other = grind arith
 
--- the tokens behind one that covers its text
+-- the tokens after one that covers its text
 tokens_from-covered : (m : Mode) (n : ℕ) (xs : List ℕ) → length xs ≤ n → tokens_from m 0 (drop n xs) ≡ []
 unfolding tokens_from
 tokens_from-covered m n xs le = ap (tokens_from m 0) (drop_all n xs le)

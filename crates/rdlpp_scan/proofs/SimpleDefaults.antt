@@ -15,7 +15,7 @@ use Rattle.rdlpp_scan.specs.SimpleDefaults.{is_simple}
 use Rattle.rdlpp_scan.specs.KeptText.{Cleared, cleared, ends_default, left_in, level_after, text_after}
 use Rattle.rdlpp_scan.proofs.Measures.{after_onto, by_first, left_first}
 
--- what is left of a default text behind a first token that ends nothing and leaves the level
+-- what is left of a default text after a first token that ends nothing and leaves the level
 by_token : (text : List ℕ) (t : Token) → 0 < length text → token_of Plain text ≡ t
     → text_after (left_in (Some 0) Plain text) ≡ text_after (by_first (Some 0) t text)
 by_token text t some e = ap text_after (left_first (Some 0) Plain text some ∙ ap (λ (u : Token). by_first (Some 0) u text) e)
@@ -98,7 +98,7 @@ simple_passed : (text : List ℕ) → text_after (left_in (Some 0) Plain text) �
 simple_passed [] = refl
 simple_passed (b ∷ bs) = grind (arith, cases_Bool, byte_passed, run_one, (simple_passed bs))
 
--- what stands behind the rest of a text, behind its simple bytes, stands behind all of it
+-- what stands after the rest of a text, after its simple bytes, stands after all of it
 pub after_rest : (text : List ℕ) (n : ℕ) → n ≡ prefix_len is_simple text
     → text_after (cleared (Some 0) (take (length text - n) (drop n text))) ≡ text_after (cleared (Some 0) text)
 unfolding cleared
@@ -119,7 +119,7 @@ closer_ends : (bs : List ℕ) → text_after (left_in (Some 0) Plain (41 ∷ bs)
 unfolding token_of plain_token whole is_perl ends_default text_after begins_perl begins_line_comment begins_block_comment is_blank is_line_end is_letter is_digit is_opener is_closer takes_word
 closer_ends bs = by_token (41 ∷ bs) (whole Closer 1) (omega arith) refl
 
--- what stands behind simple bytes in front of one
+-- what stands after simple bytes in front of one
 pub after_simple : (text : List ℕ) (n b : ℕ) → n ≡ prefix_len is_simple text → b ≡ get_or text n 0 → (b ≡ 44) ⊎ ((b ≡ 44 → ⊥) × (b ≡ 41))
     → take (length text - n) (drop n text) ≡ text_after (cleared (Some 0) text)
 unfolding cleared

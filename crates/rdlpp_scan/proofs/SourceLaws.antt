@@ -46,7 +46,7 @@ whole_lines_len-append (b ∷ xs) ys h =
     let here : onto_whole_lines b n ≡ suc n = elim n as P [ zero ↦ none | suc k ↦ λ e. refl ] refl in
     ap (onto_whole_lines b) (whole_lines_len-append xs ys rest) ∙ here ∙ omega arith
 
--- whole lines behind whole lines are whole lines
+-- whole lines after whole lines are whole lines
 pub IsWholeLines-append : (xs ys : List ℕ) → IsWholeLines xs → IsWholeLines ys → IsWholeLines (xs ++ ys)
 IsWholeLines-append xs ys h k = whole_lines_len-append xs ys h ∙ ap (λ n. length xs + n) k ∙ sym (length-append xs ys)
 
@@ -56,7 +56,7 @@ unfolding whole_lines_len onto_whole_lines
 IsWholeLines-take [] = refl
 IsWholeLines-take (b ∷ bs) = grind (arith, whole_lines_len-le, length-take-le, (IsWholeLines-take bs))
 
--- what is behind a place of whole lines is whole lines
+-- what is after a place of whole lines is whole lines
 pub IsWholeLines-drop : (n : ℕ) (bs : List ℕ) → IsWholeLines bs → IsWholeLines (drop n bs)
 unfolding whole_lines_len
 IsWholeLines-drop zero bs h = h
@@ -72,7 +72,7 @@ pub whole_one : (b : ℕ) (bs : List ℕ) → IsWholeLines bs → 0 < length bs 
 unfolding whole_lines_len onto_whole_lines
 whole_one b bs h some = grind arith
 
--- Lines and logical lines, with more behind them.
+-- Lines and logical lines, with more after them.
 
 line_len-whole : (held more : List ℕ) → 0 < length held → IsWholeLines held → line_len (held ++ more) ≡ line_len held
 unfolding line_len
@@ -81,7 +81,7 @@ line_len-whole (b ∷ []) more some whole = grind (arith, IsWholeLines-one)
 line_len-whole (b ∷ c ∷ cs) more some whole =
     ap (λ n. cond (is_line_end b) 1 (suc n)) (line_len-whole (c ∷ cs) more (omega arith) (IsWholeLines-rest b (c ∷ cs) whole))
 
--- a text with nothing behind it is that text
+-- a text with nothing after it is that text
 pub nothing_after : {A : Type 0} (F : List ℕ → A) (held more : List ℕ) → more ≡ [] → F (held ++ more) ≡ F held
 nothing_after F held more none = ap F (ap (λ xs. held ++ xs) none ∙ append-nil held)
 
@@ -167,7 +167,7 @@ unfolding logical_len is_continued
 after_ten b [] = refl
 after_ten b (c ∷ cs) = refl
 
--- behind an LF a line begins anew
+-- after an LF a line begins anew
 pub logical_len-after : (x : ℕ) (bs : List ℕ) → logical_len x 10 bs ≡ logical_len 0 0 bs
 unfolding logical_len is_continued
 logical_len-after x [] = refl
@@ -252,7 +252,7 @@ pub line_ends-append : (xs ys : List ℕ) → line_ends (xs ++ ys) ≡ line_ends
 unfolding line_ends
 line_ends-append xs ys = sum_by-append (λ x. cond (is_line_end x) 1 0) xs ys
 
--- the line behind a byte, and behind a text that it begins
+-- the line after a byte, and after a text that it begins
 pub line_after-ends : (b l : ℕ) (bs : List ℕ) → line_after b l + line_ends bs ≡ l + line_ends (b ∷ bs)
 unfolding line_after
 line_after-ends b l bs = grind (arith, line_ends-cons)
@@ -265,7 +265,7 @@ source_tokens-skip c m o l (suc n) [] = let e : l ≡ l + 0 = omega arith in ap 
 source_tokens-skip c m o l (suc n) (b ∷ bs) =
     source_tokens-skip c m o (line_after b l) n bs ∙ ap (λ k. source_tokens c m o k 0 (drop n bs)) (line_after-ends b l (take n bs))
 
--- a first token with more behind it
+-- a first token with more after it
 pub source_tokens-next : (c : Course) (m : Mode) (o l : ℕ) (bs : List ℕ) (t : SourceToken) → 0 < length bs → source_step c m o l bs ≡ Next t → 0 < length t.bytes
     → source_tokens c m o l 0 bs ≡ t ∷ source_tokens c Plain l (l + line_ends (take (length t.bytes) bs)) 0 (drop (length t.bytes) bs)
 unfolding source_tokens
@@ -288,13 +288,13 @@ source_tokens-last c m o l (b ∷ bs) t some is =
 
 -- The front of a text, line by line.
 
--- the first line of a text, and the lines behind it
+-- the first line of a text, and the lines after it
 pub lines_of-first : (b : ℕ) (bs : List ℕ) → lines_of (b ∷ bs) ≡ take (line_len (b ∷ bs)) (b ∷ bs) ∷ lines_of (drop (line_len (b ∷ bs)) (b ∷ bs))
 unfolding lines_of line_len onto_first is_line_end
 lines_of-first b [] = elim (eqb b 10) as (λ t. cond t ((b ∷ []) ∷ []) ((b ∷ []) ∷ []) ≡ take (cond t 1 1) (b ∷ []) ∷ lines_of (drop (cond t 1 1) (b ∷ []))) [ true ↦ refl | false ↦ refl ]
 lines_of-first b (c ∷ cs) = grind (arith, (lines_of-first c cs))
 
--- the lines of whole lines and of what is behind them
+-- the lines of whole lines and of what is after them
 lines_of-append : (w r : List ℕ) → IsWholeLines w → lines_of (w ++ r) ≡ lines_of w ++ lines_of r
 unfolding lines_of is_line_end onto_first
 lines_of-append [] r whole = refl

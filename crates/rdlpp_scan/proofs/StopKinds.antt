@@ -1,4 +1,4 @@
--- Which token stands at the front of a text: by its first bytes, by its parts, and behind plain argument bytes.
+-- Which token stands at the front of a text: by its first bytes, by its parts, and after plain argument bytes.
 use Rattle.std.proofs.Common.{◌≡◌, ℕ, suc, ◌+◌, ◌<◌, ◌≤◌, Bool, true, false, cond, ◌||◌, ◌&&◌, eqb, List, ◌∷◌, ◌++◌, length, get_or, refl, sym, ap, ◌∙◌, subst, inl, inr, ⊎_elim, arith, ltb, drop, Option, eqb-true, append-nil, [], slice_index, ◌==◌}
 use Rattle.std.specs.List.{prefix_len}
 use Rattle.std.proofs.lemmas.Bool.{and_parts, cases_Bool, cond_both, false_from_ne_true, false≢true, or_cases, or_from, or_parts}
@@ -77,7 +77,7 @@ run-inside : (p : ℕ → Bool) → IsRunTest p → (w x : List ℕ) → 0 < len
 run-inside p t w x some =
     ⊎_elim (λ none. run-none p w x none) (λ rest. ⊎_elim (λ h. run-whole p w x t.line_end some h) (λ stop. run-stop p w x (at_stop p x t.backquote t.quote t.slash t.less stop)) rest)
 
--- a word behind a first byte doesn't either
+-- a word after a first byte doesn't either
 word-inside : (b : ℕ) (w x : List ℕ) → IsEdge (b ∷ w) x → is_line_end b ≡ false → is_word (get_or (w ++ x) 0 0) ≡ true → prefix_len is_word (w ++ x) ≤ length w
 unfolding is_word is_letter is_digit
 word-inside b [] x edge line here =
@@ -183,7 +183,7 @@ pub block_token-kind : (from : ℕ) (bs : List ℕ) → (block_token from bs).ki
 unfolding block_token whole
 block_token-kind from bs = cond_both (ltb (from + first_place ends_block_comment (drop from bs)) (length bs)) _ _ (λ (t : Token). t.kind ≡ BlockComment) (λ _. refl) (λ _. refl)
 
--- a backquote that begins no usage has no letter behind it
+-- a backquote that begins no usage has no letter after it
 pub back_letter : (b c : ℕ) → eqb b 96 ≡ true → (eqb b 96 && is_letter c) ≡ false → is_letter c ≡ false
 back_letter b c h k = sym (ap (λ t. t && is_letter c) h) ∙ k
 
@@ -214,13 +214,13 @@ pub token_of-row : (bs : List ℕ) → Row bs (token_of Plain bs)
 unfolding token_of
 token_of-row bs = plain_token-row bs
 
--- Every first token but a string or a block comment leaves plain text behind it, and an opener, a closer and a comma are one byte.
+-- Every first token but a string or a block comment leaves plain text after it, and an opener, a closer and a comma are one byte.
 
--- a token of a kind that opens no mode leaves plain text behind it
+-- a token of a kind that opens no mode leaves plain text after it
 ClosesPlain : Token → Type 0
 ClosesPlain t = opens_mode t.kind ≡ false → t.next_mode ≡ Plain
 
--- a whole token leaves plain text behind it
+-- a whole token leaves plain text after it
 whole_plain : (k : Kind) (n : ℕ) → ClosesPlain (whole k n)
 unfolding ClosesPlain whole
 whole_plain k n h = refl
@@ -250,7 +250,7 @@ rows P run one block string Plain bs = plain_rows P run one block string bs
 rows P run one block string InStr bs = cond_both (begins_perl bs) _ _ P (λ _. run _ _ refl) (λ _. string 0 bs)
 rows P run one block string InBlock bs = block 0 bs
 
--- a first token of a kind that opens no mode leaves plain text behind it
+-- a first token of a kind that opens no mode leaves plain text after it
 pub closed_kind_plain : (m : Mode) (bs : List ℕ) → opens_mode (token_of m bs).kind ≡ false → (token_of m bs).next_mode ≡ Plain
 unfolding ClosesPlain
 closed_kind_plain m bs = rows ClosesPlain (λ k n _. whole_plain k n) (λ k. whole_plain k 1) block_plain string_plain m bs
@@ -558,7 +558,7 @@ blanks_passed (b ∷ bs) = elim (cases_Bool (is_blank b)) [
       ap (λ (k : ℕ). fault (drop k (b ∷ bs))) (sym none)
 ]
 
--- what stands behind the bytes of a class, by the first of them
+-- what stands after the bytes of a class, by the first of them
 pub run_one : (class : ℕ → Bool) (b : ℕ) (bs : List ℕ) → class b ≡ true → drop (prefix_len class (b ∷ bs)) (b ∷ bs) ≡ drop (prefix_len class bs) bs
 run_one class b bs h = grind arith
 
@@ -605,7 +605,7 @@ plain_argument_run : (bs : List ℕ) → fault bs ≡ fault (drop (prefix_len is
 plain_argument_run [] = refl
 plain_argument_run (b ∷ bs) = grind (arith, cases_Bool, byte_passed, fault, run_one, (plain_argument_run bs))
 
--- in each mode the first fault of a text is that behind its plain argument bytes
+-- in each mode the first fault of a text is that after its plain argument bytes
 pub plain_argument_passed : (mode : Mode) (bs : List ℕ) → fault_of_tokens mode (tokens_from mode 0 bs) ≡ fault_of_tokens mode (tokens_from mode 0 (drop (plain_argument_len mode bs) bs))
 unfolding plain_argument_len fault
 plain_argument_passed Plain bs = plain_argument_run bs

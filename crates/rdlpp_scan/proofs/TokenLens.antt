@@ -397,7 +397,7 @@ tokens_from-following : (m : Mode) (n b : ℕ) (bs : List ℕ) → 0 < n → tok
 tokens_from-following m zero b bs long = absurd (omega arith)
 tokens_from-following m (suc n) b bs long = tokens_from-skip m (suc n - 1) bs ∙ ap (λ i. tokens_from m 0 (drop i bs)) (omega arith)
 
--- the first token, and the tokens behind it
+-- the first token, and the tokens after it
 pub tokens_from-step : (m : Mode) (bs : List ℕ) → 0 < length bs → 0 < (token_of m bs).len → tokens_from m 0 bs ≡ token_of m bs ∷ tokens_from (token_of m bs).next_mode 0 (drop (token_of m bs).len bs)
 unfolding tokens_from
 tokens_from-step m [] some long = absurd (omega arith)
@@ -433,7 +433,7 @@ pub fault-end : (m : Mode) (bs : List ℕ) (at : ℕ) → length bs ≤ at → f
 unfolding fault_of_tokens tokens_from
 fault-end m bs at over = ap (λ xs. fault_of_tokens m (tokens_from m 0 xs)) (drop_all at bs over)
 
--- The last byte of a token that leaves plain text behind it is no blank and no LF, where the token isn't of these alone.
+-- The last byte of a token that leaves plain text after it is no blank and no LF, where the token isn't of these alone.
 
 -- a byte that is a blank or LF
 abbrev is_space : ℕ → Bool
@@ -478,7 +478,7 @@ rest_some : (bs : List ℕ) → 1 < length bs → 0 < length (drop 1 bs)
 rest_some (b ∷ c ∷ bs) lt = omega arith
 rest_some _ lt = absurd (omega arith)
 
--- a run of them behind a first byte
+-- a run of them after a first byte
 run_after : (bs : List ℕ) (k : Kind) → is_word (get_or bs 1 0) ≡ true → Ends bs (whole k (suc (prefix_len is_word (drop 1 bs))))
 run_after bs k h = grind (arith, inside_of, word_large, at_zero, prefix_len-some, rest_some, get_or-drop, run-ends, prefix_len_passes)
 
@@ -547,7 +547,7 @@ plain-ends bs some =
     cond_both (is_closer b) _ _ P (λ _. one-ends bs Closer line blank) (λ _.
     cond_both (eqb b 44) _ _ P (λ _. one-ends bs Comma line blank) (λ _. one-ends bs Other line blank))))))))))))))
 
--- the first token of a text, where it leaves plain text behind it and is no `//` comment
+-- the first token of a text, where it leaves plain text after it and is no `//` comment
 pub token-ends : (bs : List ℕ) → 0 < length bs → (token_of Plain bs).next_mode ≡ Plain → is_line_comment (token_of Plain bs).kind ≡ false → Ending bs (token_of Plain bs)
 unfolding token_of Ends
 token-ends bs some = plain-ends bs some

@@ -308,7 +308,7 @@ unfoldable pub end_of : Step → List SourceToken
 end_of (Last t) = t ∷ []
 end_of (Next t) = []
 
--- a part, and the rest of its token behind it
+-- a part, and the rest of its token after it
 module _ (c : Course) (m e : Mode) (o l : ℕ) (held more : List ℕ) (s : Step) (some : 0 < length held)
     (step : source_step c m o l (held ++ more) ≡ onto_step held l s)
     (rest : 0 < length more → source_step c e (opening m o l) (l + line_ends held) more ≡ s)
@@ -514,7 +514,7 @@ define_long : (c : Course) (l : ℕ) (bs : List ℕ) (n : ℕ) → logical_len 0
 unfolding define_step
 define_long c l bs n is long = grind (arith, lt-ltb)
 
--- what a `define` gives whose logical line doesn't end in the text, by what breaks the source behind it
+-- what a `define` gives whose logical line doesn't end in the text, by what breaks the source after it
 at_break : Course → ℕ → List ℕ → Option Break → Step
 at_break c l bs None = cond (ltb c.most (length bs)) (broken DefineLong [] l) (Next (record { sort = Definition; bytes = bs; line = l }))
 at_break c l bs (Some k) = cond (ltb c.most (length bs + k.len)) (broken DefineLong [] l) (broken DefineCut [] l)
@@ -601,7 +601,7 @@ step-line c o l held more some ends is other also =
 
 -- Logical lines over several physical lines.
 
--- a logical line that doesn't end in the front of a text goes on behind it
+-- a logical line that doesn't end in the front of a text goes on after it
 pub logical_len-goes_after : (x y : ℕ) (xs ys : List ℕ) → logical_len x y xs ≡ None
     → logical_len x y (xs ++ ys) ≡ option_map (λ n. length xs + n) (logical_len (get_or (x ∷ y ∷ xs) (length xs) 0) (get_or (x ∷ y ∷ xs) (suc (length xs)) 0) ys)
 unfolding logical_len
@@ -619,7 +619,7 @@ whole_lines-last x y [] some whole = absurd (omega arith)
 whole_lines-last x y (b ∷ []) some whole = line_end-ten b (IsWholeLines-one b whole)
 whole_lines-last x y (b ∷ c ∷ xs) some whole = whole_lines-last y b (c ∷ xs) (omega arith) (IsWholeLines-rest b (c ∷ xs) whole)
 
--- behind whole lines it goes on as at its beginning
+-- after whole lines it goes on as at its beginning
 pub logical_len-after_lines : (xs ys : List ℕ) → IsWholeLines xs → logical_len 0 0 xs ≡ None → logical_len 0 0 (xs ++ ys) ≡ option_map (λ n. length xs + n) (logical_len 0 0 ys)
 logical_len-after_lines [] ys whole none = logical_len-start ys
 logical_len-after_lines (b ∷ xs) ys whole none =

@@ -15,7 +15,7 @@ pub record IsCleanText (text : List ℕ) : Type 0 where
   pub faultless : lex_fault_from Plain text ≡ None
   pub uncommented : AllByRecursion (λ t. is_line_comment t.kind ≡ false) (tokens_from Plain 0 text)
 
--- a token of such a text: it leaves plain text behind it, and is neither `<%` nor a `//` comment
+-- a token of such a text: it leaves plain text after it, and is neither `<%` nor a `//` comment
 pub record IsCleanToken (t : Token) : Type 0 where
   pub next : t.next_mode ≡ Plain
   pub sound : is_perl t.kind ≡ false

@@ -6,7 +6,7 @@ use Rattle.rdlpp_scan.specs.Continuations.{as_read}
 use Rattle.rdlpp_scan.specs.KeptText.{Cleared, Sound, Unsound, onto, left_in}
 use Rattle.rdlpp_scan.specs.declared.token.LexFault.{LexFault}
 
--- what is left of the text behind the token that is read, or its first fault
+-- what is left of the text after the token that is read, or its first fault
 abbrev pub left_after : KeptBytes → Cleared
 left_after bytes = left_in bytes.level bytes.mode (as_read bytes.is_logical bytes.rest.now)
 
@@ -18,7 +18,7 @@ left bytes = onto (as_read bytes.is_logical bytes.token.now) (left_after bytes)
 abbrev pub unread : KeptBytes → ℕ
 unread bytes = length bytes.token.now + length bytes.rest.now
 
--- no level behind a token of the text is too large for its number
+-- no level after a token of the text is too large for its number
 abbrev pub LevelFits : KeptBytes → Type 0
 LevelFits bytes = unwrap_or bytes.level 0 + length bytes.rest.now ≤ 18446744073709551615
 

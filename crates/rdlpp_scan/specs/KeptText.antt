@@ -1,4 +1,4 @@
--- The text of a body or of a default: what is left of it without its `//` comments and what stands behind it, or what is wrong
+-- The text of a body or of a default: what is left of it without its `//` comments and what stands after it, or what is wrong
 -- with it.
 -- A definition that names no source is this project's own.
 use Rattle.std.specs.Prelude.{◌≡◌, ℕ, ◌+◌, ◌-◌, Bool, true, false, ◌||◌, ◌&&◌, ◌==◌, List, [], ◌∷◌, ◌++◌, length, take, drop, slice_index, Option, Some, None, Result, Ok, Err, if◌then◌else◌}
@@ -40,13 +40,13 @@ ends_default Comma b = true
 ends_default Closer b = b == 41
 ends_default _ b = false
 
--- the level behind a token: `(`, `[` and `{` raise it, `)`, `]` and `}` lower it where it isn't 0 (this project's profile)
+-- the level after a token: `(`, `[` and `{` raise it, `)`, `]` and `}` lower it where it isn't 0 (this project's profile)
 unfoldable pub level_after : Kind → ℕ → ℕ
 level_after Opener level = level + 1
 level_after Closer level = level - 1
 level_after _ level = level
 
--- a text without its `//` comments and what stands behind it, or its first fault
+-- a text without its `//` comments and what stands after it, or its first fault
 pub data Cleared : Type 0 where
   Sound : List ℕ → List ℕ → Cleared
   Unsound : LexFault → Cleared
@@ -65,7 +65,7 @@ abbrev pub stops_token : Option ℕ → Kind → ℕ → Bool
 stops_token None k b = false
 stops_token (Some n) k b = n == 0 && ends_default k b
 
--- the level behind a token
+-- the level after a token
 abbrev pub level_by : Option ℕ → Kind → Option ℕ
 level_by l k = option_map (λ n. level_after k n) l
 
@@ -109,18 +109,18 @@ unfoldable pub trimmed_len : (ℕ → Bool) → Cleared → Result ℕ LexFault
 trimmed_len class (Sound rest following) = Ok (length (trimmed_of class rest))
 trimmed_len class (Unsound fault) = Err fault
 
--- what stands behind what is left
+-- what stands after what is left
 unfoldable pub text_after : Cleared → List ℕ
 text_after (Sound rest following) = following
 text_after (Unsound fault) = []
 
--- the next byte of what is left, and what is left behind it
+-- the next byte of what is left, and what is left after it
 unfoldable pub IsNext : Cleared → Result (Option ℕ) LexFault → Cleared → Type 0
 IsNext old (Ok (Some b)) new = old ≡ onto (b ∷ []) new
 IsNext old (Ok None) new = (old ≡ Sound [] (text_after new)) × (new ≡ old)
 IsNext old (Err fault) new = old ≡ Unsound fault
 
--- what is left of a text behind the bytes of a class with which it begins
+-- what is left of a text after the bytes of a class with which it begins
 unfoldable pub begun : (ℕ → Bool) → Cleared → Cleared
 begun class (Sound rest following) = Sound (drop (prefix_len class rest) rest) following
 begun class (Unsound fault) = Unsound fault

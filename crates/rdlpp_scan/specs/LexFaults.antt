@@ -22,7 +22,7 @@ open_fault Plain = None
 open_fault InStr = Some OpenString
 open_fault InBlock = Some OpenComment
 
--- the first fault of a list of tokens behind a mode
+-- the first fault of a list of tokens after a mode
 unfoldable pub fault_of_tokens : Mode → List Token → Option LexFault
 fault_of_tokens mode [] = open_fault mode
 fault_of_tokens mode (t ∷ ts) = if is_perl t.kind then Some PerlFault else fault_of_tokens t.next_mode ts
@@ -31,7 +31,7 @@ fault_of_tokens mode (t ∷ ts) = if is_perl t.kind then Some PerlFault else fau
 unfoldable pub lex_fault_from : Mode → List ℕ → Option LexFault
 lex_fault_from mode bytes = fault_of_tokens mode (tokens_from mode 0 bytes)
 
--- a byte that begins no string, no comment and no `<%`, whatever stands behind it
+-- a byte that begins no string, no comment and no `<%`, whatever stands after it
 unfoldable pub is_plain_argument : ℕ → Bool
 is_plain_argument b = not (b == 34 || b == 47 || b == 60)
 

@@ -20,8 +20,8 @@ line_token true InBlock text = token_of InBlock text
 abbrev pub kept_of : Kind → List ℕ → List ℕ
 kept_of k bytes = elim k [ LineComment ↦ [] | _ ↦ bytes ]
 
--- a first token is that of the text as it is read: its kind, the mode behind it, its bytes but for those of a `//` comment, and
--- what stands behind it
+-- a first token is that of the text as it is read: its kind, the mode after it, its bytes but for those of a `//` comment, and
+-- what stands after it
 pub record IsRead (is_logical : Bool) (mode : Mode) (text : List ℕ) (t : Token) : Type 0 where
   pub kind : t.kind ≡ (token_of mode (as_read is_logical text)).kind
   pub next_mode : t.next_mode ≡ (token_of mode (as_read is_logical text)).next_mode

@@ -20,7 +20,7 @@ unfoldable pub whole_lines_len : List ℕ → ℕ
 whole_lines_len [] = 0
 whole_lines_len (b ∷ bs) = onto_whole_lines b (whole_lines_len bs)
 
--- whether the LF behind a text is a continuation; x and y are the two bytes before the text (IEEE 1364-2001, `define`)
+-- whether the LF after a text is a continuation; x and y are the two bytes before the text (IEEE 1364-2001, `define`)
 unfoldable pub ends_continued : ℕ → ℕ → List ℕ → Bool
 ends_continued x y [] = is_continued x y
 ends_continued x y (b ∷ bs) = ends_continued y b bs

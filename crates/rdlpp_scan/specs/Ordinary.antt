@@ -28,7 +28,7 @@ pub record IsPlainToken (t : SourceToken) : Type 0 where
 abbrev pub IsEdge : List ℕ → List ℕ → Type 0
 IsEdge w x = (x ≡ []) ⊎ (IsWholeLines w ⊎ (stops_plain_text x ≡ true))
 
--- the text w, on a line and with x behind it, is ordinary: its tokens are plain, are all of w, and those of x follow
+-- the text w, on a line and with x after it, is ordinary: its tokens are plain, are all of w, and those of x follow
 pub record IsOrdinary (c : Course) (line : ℕ) (w x : List ℕ) : Type 0 where
   pub tokens : List SourceToken
   pub steps : (opened : ℕ) → source_tokens c Plain opened line 0 (w ++ x) ≡ tokens ++ source_tokens c Plain opened (line + line_ends w) 0 x

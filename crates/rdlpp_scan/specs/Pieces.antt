@@ -18,7 +18,7 @@ unfoldable pub AreCuts : List (List ℕ) → Type 0
 AreCuts [] = Unit {0}
 AreCuts (p ∷ ps) = IsCut p (concat ps) × AreCuts ps
 
--- where a text stands behind its tokens
+-- where a text stands after its tokens
 unfoldable pub mode_after : Mode → List Token → Mode
 mode_after mode [] = mode
 mode_after mode (t ∷ ts) = mode_after t.next_mode ts
@@ -34,7 +34,7 @@ unfoldable pub is_open : Mode → Bool
 is_open Plain = false
 is_open _ = true
 
--- a part of a string or of a comment in front of the tokens behind it: one token with the part that follows, if `<%` doesn't
+-- a part of a string or of a comment in front of the tokens after it: one token with the part that follows, if `<%` doesn't
 unfoldable pub join_onto : Token → List Token → List Token
 join_onto t [] = t ∷ []
 join_onto t (u ∷ us) =

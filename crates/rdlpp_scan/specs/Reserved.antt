@@ -17,7 +17,7 @@ directive_name Endif = codes "endif"
 directive_name Include = codes "include"
 directive_name Line = codes "line"
 
--- the word of a directive: its name behind a backquote
+-- the word of a directive: its name after a backquote
 abbrev pub directive_word : Directive → List ℕ
 directive_word d = 96 ∷ directive_name d
 

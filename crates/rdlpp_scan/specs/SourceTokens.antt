@@ -27,13 +27,13 @@ pub record SourceToken : Type 0 where
   pub bytes : List ℕ
   pub line : ℕ
 
--- what the tokens of a text depend on beside it: the most bytes of a logical line, and the line that breaks the source behind
+-- what the tokens of a text depend on beside it: the most bytes of a logical line, and the line that breaks the source after
 -- this text, if one does
 pub record Course : Type 0 where
   pub most : ℕ
   pub break : Option Break
 
--- one token of a source: the last, or one with more behind it
+-- one token of a source: the last, or one with more after it
 pub data Step : Type 0 where
   Last : SourceToken → Step
   Next : SourceToken → Step

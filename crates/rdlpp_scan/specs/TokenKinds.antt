@@ -5,7 +5,7 @@ use Rattle.rdlpp_scan.specs.declared.token.Kind.{Kind}
 use Rattle.rdlpp_scan.specs.declared.token.Kind.TheVariants.{Str, BlockComment, Opener, Closer, Comma}
 use Rattle.rdlpp_scan.specs.SourceTokens.{Ordinary, SourceToken}
 
--- whether a token of a kind can leave a string or a block comment open behind it
+-- whether a token of a kind can leave a string or a block comment open after it
 unfoldable pub opens_mode : Kind → Bool
 opens_mode Str = true
 opens_mode BlockComment = true

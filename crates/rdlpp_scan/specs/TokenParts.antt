@@ -1,4 +1,4 @@
--- The parts of the first token of a text, each by itself: its kind, where it stops, and where the text stands behind it.
+-- The parts of the first token of a text, each by itself: its kind, where it stops, and where the text stands after it.
 -- A definition that names no source is this project's own.
 use Rattle.std.specs.Prelude.{ℕ, suc, ◌+◌, not, false, ◌&&◌, ◌==◌, nat_lt, List, length, drop, slice_index, if◌then◌else◌}
 use Rattle.std.specs.List.{prefix_len}
@@ -9,7 +9,7 @@ use Rattle.rdlpp_scan.specs.declared.token.Mode.TheVariants.{Plain, InStr, InBlo
 use Rattle.rdlpp_scan.specs.Bytes.{is_blank, is_line_end, is_letter, is_digit, is_word, is_opener, is_closer, takes_word, begins_perl, ends_block_comment}
 use Rattle.rdlpp_scan.specs.Tokens.{first_place, string_stop}
 
--- the kind of a token of plain text that begins with a byte that stands in no run, and the byte behind it (this project's profile)
+-- the kind of a token of plain text that begins with a byte that stands in no run, and the byte after it (this project's profile)
 unfoldable pub mark_kind : ℕ → ℕ → Kind
 mark_kind b c =
     if b == 44 then Comma
@@ -25,7 +25,7 @@ mark_kind b c =
     else (if takes_word b && is_word c then Word
     else Other))))))))))
 
--- the kind of a token of plain text, by its first byte and the byte behind it (this project's profile)
+-- the kind of a token of plain text, by its first byte and the byte after it (this project's profile)
 unfoldable pub plain_kind : ℕ → ℕ → Kind
 plain_kind b c =
     if is_letter b then Name
@@ -58,7 +58,7 @@ stop_of mode kind bytes = elim kind [
   | _ ↦ 1
 ]
 
--- where a text stands behind its first token, of which it is known where it stops
+-- where a text stands after its first token, of which it is known where it stops
 unfoldable pub mode_after : Kind → ℕ → List ℕ → Mode
 mode_after kind stop bytes = elim kind [
   | Str ↦ if slice_index bytes stop == 34 then Plain else InStr
@@ -66,7 +66,7 @@ mode_after kind stop bytes = elim kind [
   | _ ↦ Plain
 ]
 
--- how long a token of a kind is, of which it is known where it stops and where the text stands behind it: what closes it is part of it
+-- how long a token of a kind is, of which it is known where it stops and where the text stands after it: what closes it is part of it
 unfoldable pub len_of : Kind → Mode → ℕ → ℕ
 len_of kind Plain stop = elim kind [
   | Str ↦ suc stop

@@ -4,7 +4,7 @@ ghost use Rattle.rdlpp_scan.specs.Continuations.{continuation_len, first_len, as
 
 use crate::byte_at;
 
-/// The first byte of a text as it is read, and the text behind it; `None` at the end.
+/// The first byte of a text as it is read, and the text after it; `None` at the end.
 ///
 /// In the text of a logical line a continuation, which is `\` and LF, or `\`, CR and LF, is read as
 /// its LF (IEEE 1364-2001, `define`).

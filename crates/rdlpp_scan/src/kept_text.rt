@@ -78,7 +78,7 @@ fn stops_token(level: Option<usize>, kind: Kind, b: u8) -> bool
     }
 }
 
-// The level behind a token, where there is one.
+// The level after a token, where there is one.
 #[tactic(auto, unfolding(crate::specs::KeptText::level_after))]
 fn level_by(level: Option<usize>, kind: Kind) -> Option<usize>
     requires { unwrap_or level 0 < 18446744073709551615 }
@@ -114,7 +114,7 @@ pub(crate) fn trims(is_default: bool, b: u8) -> bool
 pub(crate) struct KeptBytes<'a> {
     // What is left of the token that is read.
     token: &'a [u8],
-    // The text behind it, and where that stands.
+    // The text after it, and where that stands.
     rest: &'a [u8],
     mode: Mode,
     // How deep in brackets; none in a body.
@@ -140,7 +140,7 @@ impl<'a> KeptBytes<'a> {
         }
     }
 
-    // Goes on to the next token behind one that is read whole; false at the end.
+    // Goes on to the next token after one that is read whole; false at the end.
     fn advance(&mut self) -> Result<bool, LexFault>
         requires fits { LevelFits self.old }
         ensures next { IsAdvanced self.old result self.new }
@@ -218,12 +218,12 @@ impl<'a> KeptBytes<'a> {
     }
 }
 
-/// How long a text is without its `//` comments and what goes at both ends, and what stands behind it.
+/// How long a text is without its `//` comments and what goes at both ends, and what stands after it.
 #[derive(Clone, Copy, Drop)]
 pub struct Measured<'a> {
     /// Its length in bytes.
     pub len: usize,
-    /// What stands behind it: nothing behind a body.
+    /// What stands after it: nothing after a body.
     pub following: &'a [u8],
 }
 
@@ -340,7 +340,7 @@ fn append_kept(to: &mut Vec<u8>, text: &[u8], is_logical: bool, is_default: bool
     }
 }
 
-/// What stands behind the default text with which bytes begin, from its `,` or `)` on, where no
+/// What stands after the default text with which bytes begin, from its `,` or `)` on, where no
 /// byte is a continuation; nothing where the default text has a fault or goes up to the end.
 ///
 /// Costs time linear in the default text's length.
@@ -380,7 +380,7 @@ fn is_simple(b: u8) -> bool
         || b == b'<')
 }
 
-// What stands behind a default text, token by token.
+// What stands after a default text, token by token.
 #[inline(never)]
 fn after_by_tokens(bytes: &[u8]) -> &[u8]
     ensures value { result.now ≡ text_after (cleared (Some 0) bytes.now) }

@@ -32,7 +32,7 @@ pub fn line_len(bytes: &[u8]) -> usize
 
 /// The length in bytes up to and with the last LF; 0 where `bytes` has no LF (this project's profile).
 ///
-/// Costs time linear in what stands behind the last LF, or in the whole length where there is no LF.
+/// Costs time linear in what stands after the last LF, or in the whole length where there is no LF.
 pub fn last_line_end(bytes: &[u8]) -> usize
     ensures { result ≡ whole_lines_len bytes.now }
 {
@@ -112,7 +112,7 @@ fn byte_back(bytes: &[u8], back: usize) -> u8
     }
 }
 
-// Whether a line without its LF goes on behind that LF: it ends with `\`, or with `\` and CR.
+// Whether a line without its LF goes on after that LF: it ends with `\`, or with `\` and CR.
 fn is_continued(line: &[u8]) -> bool
     ensures { result ≡ ends_continued 0 0 line.now }
 {

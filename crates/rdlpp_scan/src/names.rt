@@ -18,7 +18,7 @@ pub fn is_name(bytes: &[u8]) -> bool
 }
 
 impl Directive {
-    /// The word of this directive: its name behind a backquote (IEEE 1364-2001, clause on compiler
+    /// The word of this directive: its name after a backquote (IEEE 1364-2001, clause on compiler
     /// directives).
     pub fn word(self) -> &'static [u8]
         ensures { result.now ≡ directive_word self }

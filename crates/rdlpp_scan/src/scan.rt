@@ -79,7 +79,7 @@ fn comment_stop(bytes: &[u8]) -> usize
     memmem::find(bytes, b"*/").unwrap_or(bytes.len())
 }
 
-// The kind of a token of plain text that begins with a byte that stands in no run, and the byte behind it.
+// The kind of a token of plain text that begins with a byte that stands in no run, and the byte after it.
 #[tactic(auto, unfolding(crate::specs::TokenParts::mark_kind, crate::specs::Bytes::is_line_end, crate::specs::Bytes::is_opener, crate::specs::Bytes::is_closer, crate::specs::Bytes::takes_word))]
 fn mark_kind(b: u8, c: u8) -> Kind
     ensures { result ≡ mark_kind b c }
@@ -181,7 +181,7 @@ fn stop_of(mode: Mode, kind: Kind, bytes: &[u8]) -> usize
     }
 }
 
-// Where the text stands behind its first token, which stops at a place.
+// Where the text stands after its first token, which stops at a place.
 #[tactic(auto, unfolding(crate::specs::TokenParts::mode_after))]
 fn mode_after(kind: Kind, stop: usize, bytes: &[u8]) -> Mode
     ensures { result ≡ mode_after kind stop bytes.now }

@@ -53,14 +53,14 @@ stands_at [] rest (suc k) path e = cc
 stands_at (p ∷ ps) rest zero path e = (sym (ap (λ xs. slice_get xs 0) e), ap (drop 1) e)
 stands_at (p ∷ ps) rest (suc k) path e = stands_at ps rest k path e
 
--- the candidate of the next folder, and those behind it
+-- the candidate of the next folder, and those after it
 pub in_folder : (paths folders rest : List (List ℕ)) (name folder : List ℕ) (tried : ℕ)
     → map (λ f. joined_path f name) folders ≡ drop tried paths → folders ≡ folder ∷ rest
     → (slice_get paths tried ≡ Some (joined_path folder name)) × (map (λ f. joined_path f name) rest ≡ drop (suc tried) paths)
 in_folder paths folders rest name folder tried left step =
     stands_at paths (map (λ f. joined_path f name) rest) tried (joined_path folder name) (sym (ap (map (λ f. joined_path f name)) step) ∙ left)
 
--- behind the last candidate none is left
+-- after the last candidate none is left
 pub all_tried : (paths : List (List ℕ)) (tried : ℕ) → [] ≡ drop tried paths → length paths ≤ tried
 all_tried paths tried e = let none : 0 ≡ length (drop tried paths) = ap length e in omega (arith, length-drop tried paths)
 

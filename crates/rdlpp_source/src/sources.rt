@@ -92,7 +92,7 @@ pub trait Sources: Drop {
         ensures catalog { catalog self.new ≡ catalog self.old };
 
     /// Reads the next bytes of a source into the front of `to`, and answers how many: from 0 to
-    /// the length of `to`. What stands in `to` behind them is left open.
+    /// the length of `to`. What stands in `to` after them is left open.
     ///
     /// 0 where `to` is empty or no byte is left. The one refusal is `Device`, where the count of
     /// device failures rose; no byte of the text is taken then, and a later read goes on where

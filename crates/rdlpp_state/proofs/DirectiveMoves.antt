@@ -62,7 +62,7 @@ pub record OpensSource {S R : Type 0} (g : Ghosts S R) (len : ℕ) (old mid new 
   pub admits : Admits old.limits (run_rules g old) g.unread old.table.macros old.conditions old.files.include_stack (with_inner (consumed_file len 0) old.files.include_stack) os path text found
   pub becomes : new ≡ included_engine found len mid
 
--- an engine does what a construct comes to, behind a search where there was one: it keeps its fault, stands where it ends, or opens its source
+-- an engine does what a construct comes to, after a search where there was one: it keeps its fault, stands where it ends, or opens its source
 abbrev pub Does : {S R : Type 0} → Ghosts S R → ℕ → EngineView S R → EngineView S R → EngineView S R → Option Halt → Move → Type 0
 Does g len old mid new result (Stops kind word) = (result ≡ Some Fault) × (new ≡ record mid { kept = Some (fault_at kind (inner_buffer mid.files.include_stack).line word (state_of mid)) }) × IsOwn kind
 Does g len old mid new result (Moves bytes place t) = Arrives len old new result bytes place t

@@ -262,7 +262,7 @@ silent_text : (quota : ℕ) (old new : Passage) → LendsText (all_of quota) [] 
 unfolding all_of after_bytes
 silent_text quota old new lends = lends.text ∙ ap (λ (x : List ℕ). after_bytes x new) (sym lends.lent)
 
--- what an answer leaves, behind such a part
+-- what an answer leaves, after such a part
 ends_or_faults_after : {S R : Type 0} (g : Ghosts S R) (n m : ℕ) (answer : Result (Option (List ℕ)) Report) (old mid new : EngineView S R) → IsSilent g n old mid → EndsOrFaults g m answer mid new → EndsOrFaults g (n + m) answer old new
 ends_or_faults_after g n m (Ok (Some bytes)) old mid new first ends_or_faults = tt
 ends_or_faults_after g n m (Ok None) old mid new first ends_or_faults = ends_or_faults
@@ -276,7 +276,7 @@ ends_or_faults_after g n m (Err f) old mid new first ends_or_faults = record {
   stopped = ends_or_faults.stopped;
 }
 
--- where bytes that are lent stand, behind such a part
+-- where bytes that are lent stand, after such a part
 lends_after : {S R : Type 0} (g : Ghosts S R) (n m : ℕ) (old mid new : EngineView S R) (bytes : List ℕ) (a b : ℕ) → (reaches : Reaches g old mid) → length reaches.between ≤ n → (g.has_known_texts old.sources → text_of g old ≡ text_of g mid) → (g.has_known_texts old.sources → g.has_known_texts mid.sources)
     → LendsWhere g m (all_of b) mid new bytes → LendsWhere g (n + m) (all_of a) old new bytes
 unfolding all_of
@@ -362,7 +362,7 @@ silent_step g m old mid w =
           part_more _ (length l.reached.between) m (length-append l.reached.between (mid ∷ [])) l.few;
     }
 
--- a fault that came behind fewer parts
+-- a fault that came after fewer parts
 ends_or_faults_wider : {S R : Type 0} (g : Ghosts S R) (n m : ℕ) (answer : Result (Option (List ℕ)) Report) (old new : EngineView S R) → n ≤ m → EndsOrFaults g n answer old new → EndsOrFaults g m answer old new
 ends_or_faults_wider g n m (Ok (Some bytes)) old new more ends_or_faults = tt
 ends_or_faults_wider g n m (Ok None) old new more ends_or_faults = ends_or_faults

@@ -82,7 +82,7 @@ unfolding entered_mode
 same_window [] len lines next = refl
 same_window (f ∷ outer) len lines next = refl
 
--- a part of a text up to a place behind it
+-- a part of a text up to a place after it
 part_slice : (xs : List ℕ) (at len accepted : ℕ) → at + len ≤ accepted → take len (drop at xs) ≡ take len (drop at (take accepted xs))
 part_slice xs at len accepted h =
     let place : at + (accepted - at) ≡ accepted = omega arith in
@@ -558,7 +558,7 @@ drop_min (x ∷ xs) zero zero e = refl
 drop_min (x ∷ xs) (suc m) (suc k) e = drop_min xs m k (omega arith)
 drop_min _ _ _ e = absurd (omega arith)
 
--- what stands behind the word of a `define`
+-- what stands after the word of a `define`
 pub after_word : (line : List ℕ) (len m : ℕ) → length line ≡ len → m ≡ min len 7 → take (length line - m) (drop m line) ≡ drop 7 line
 after_word line len m wide least =
     take_rest line m ∙ drop_min line m 7 (least ∙ ap (λ n. min n 7) (sym wide))

@@ -205,7 +205,7 @@ module _ {R : Type 0} (limits : Limits) (rules : Rules) (unread : R → List ℕ
     abbrev pub around : File R → List (File R) → List Waiting
     around f outer = waiting_around limits rules unread (outer_open f.conditions_below v.open_now) f outer
 
-    -- what remains of the innermost source, where another one remains behind a move of it
+    -- what remains of the innermost source, where another one remains after a move of it
     pub moved : (f g : File R) (outer : List (File R)) (now : List Macro) (x : List ℕ)
         → source_left rules unread (around f outer) (place_of f.conditions_below v) f (include_stack_state limits macros v (f ∷ outer))
         ≡ after_bytes x (source_left rules unread (around f outer) (place_of f.conditions_below v) g (include_stack_state limits now v (g ∷ outer)))

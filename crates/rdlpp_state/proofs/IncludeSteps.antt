@@ -83,7 +83,7 @@ module _ {R : Type 0} (limits : Limits) (rules : Rules) (unread : R → List ℕ
       after_bytes (ending_after rules unread f g) (goes_on (resumed rules here g.blanks (tokens_left unread g.buffer) s) (λ after. unwound rules ws after)) in
       rw e (ap next (sym (live_place g.conditions_below v live)))
 
-  -- an included source has ended: what is written behind it, and then what remains of the one around it, where it has no open conditional of its own
+  -- an included source has ended: what is written after it, and then what remains of the one around it, where it has no open conditional of its own
   pub include_stack_returned : (has_known_texts : Type 0) (t : has_known_texts) (f g : File R) (outer : List (File R)) (new : BufferView R) → Fills has_known_texts unread fill.End f.buffer new → f.buffer.mode ≡ Plain
       → f.conditions_below ≡ length v.open_now
       → include_stack_left limits rules unread macros v (f ∷ g ∷ outer) ≡ after_bytes (ending_after rules unread f g) (include_stack_left limits rules unread macros v (g ∷ outer))
@@ -149,13 +149,13 @@ module _ {S R : Type 0} (g : Ghosts S R) (e : EngineView S R) (ready : IsReady e
       (ap (λ (p : OwnPlace). move_of rules (front_command e.limits rules g.unread e.table.macros e.conditions Include given len e.files.include_stack) p here) (live_place (inner_below e.files.include_stack) e.conditions live) ∙ is)
       (front_moves e.limits rules g.unread e.table.macros e.conditions e.files.include_stack Include given len (record { some = some; ends = front.ends; plain = plain }) include_word i)
 
-  -- behind which no string stands that closes on its line
+  -- after which no string stands that closes on its line
   pub left_nameless_include : LacksArgument IsClosedString Include (held_of (inner_buffer e.files.include_stack)) → Fails g e IncludeName (inner_buffer e.files.include_stack).line []
   unfolding state_of include_move
   left_nameless_include lacks =
       include_comes None (length (directive_word Include)) (Stops IncludeName []) (no_string_in_front_of g.unread (inner_buffer e.files.include_stack) front plain lacks) refl
 
--- an `include` whose string is given, behind the search for what it names
+-- an `include` whose string is given, after the search for what it names
 module _ {S R : Type 0} (g : Ghosts S R) (old mid new : EngineView S R) (start stop : ℕ) (ready : IsReady old) (live : old.conditions.skipped ≡ None) (some : 0 < length (held_of (inner_buffer old.files.include_stack)))
     (plain : (inner_buffer old.files.include_stack).mode ≡ Plain) (has : HasString (held_of (inner_buffer old.files.include_stack)) start stop) (bounded : IsBounded new) (becomes : mid ≡ record old { sources = mid.sources }) where
   -- the name that is searched for
@@ -290,7 +290,7 @@ searches_by {S} {R} g e from given name new answer same path good room answers f
   call = record { failures = failures; refusals = refusals; has_known_texts = has_known_texts; catalog = catalog };
 }
 
--- a source that was opened behind an `include` that was used
+-- a source that was opened after an `include` that was used
 pub included_by : {S R : Type 0} (found : Found R) (stop : ℕ) (old used new : EngineView S R) (pending : PendingView) (files : FilesView R) (below line : ℕ)
     → used ≡ record old { files = record old.files { include_stack = with_inner (consumed_file stop 0) old.files.include_stack } }
     → files ≡ record used.files { include_stack = entered_file found used.limits.source_bytes used.files.line_bytes below line ∷ used.files.include_stack }
@@ -331,7 +331,7 @@ unfolding include_stack_state file_state start_state
 include_stack_macros limits macros v [] = refl
 include_stack_macros limits macros v (f ∷ outer) = refl
 
--- what is written behind an included source that has ended
+-- what is written after an included source that has ended
 ending_of : {R : Type 0} → Rules → List (File R) → List ℕ
 ending_of rules [] = []
 ending_of rules (f ∷ []) = []
@@ -501,7 +501,7 @@ stops_open {S} {R} old new place breach mode line is at_mode tokens own opened b
       kept = becomes ∙ ap keeps opened;
     }))
 
--- what is pending behind the innermost of two sources
+-- what is pending after the innermost of two sources
 pub after_two : {R : Type 0} (origins : Bool) (include_stack rest : List (File R)) (f around : File R) → include_stack ≡ f ∷ drop 1 include_stack → drop 1 include_stack ≡ around ∷ rest
     → pending_after origins include_stack ≡ record { line_ends = if f.ends_mid_line then 1 else 0; origin = origin_pending origins (shown_line (shift_of around.shift) f.include_line) }
 unfolding pending_after

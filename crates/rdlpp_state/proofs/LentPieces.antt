@@ -112,13 +112,13 @@ pub pending_origin : (c : Catalog) (limits : Limits) (origins : Bool) (name : Li
 unfolding pending_bytes source_rules rules_of
 pending_origin c limits origins name number = origin_line_pending origins (source_rules c limits origins) name number refl
 
--- LF bytes that are pending, and an origin line behind them
+-- LF bytes that are pending, and an origin line after them
 pub pending_with_origin : (c : Catalog) (limits : Limits) (origins : Bool) (name w : List ℕ) (lines number : ℕ) → lines ≡ line_ends w
     → pending_bytes name (record { line_ends = lines; origin = origin_pending origins number }) ≡ line_ends_of w ++ origin_line (source_rules c limits origins) name number
 unfolding pending_bytes source_rules rules_of
 pending_with_origin c limits origins name w lines number counted = grind (arith, origin_line_pending, line_ends_of-owed)
 
--- an LF that is pending where a text ends in mid-line, and an origin line behind it
+-- an LF that is pending where a text ends in mid-line, and an origin line after it
 pub pending_ends_mid_line : (c : Catalog) (limits : Limits) (origins : Bool) (name : List ℕ) (ends_mid_line : Bool) (number : ℕ)
     → pending_bytes name (record { line_ends = if ends_mid_line then 1 else 0; origin = origin_pending origins number }) ≡ (if ends_mid_line then 10 ∷ [] else []) ++ origin_line (source_rules c limits origins) name number
 unfolding pending_bytes source_rules rules_of

@@ -49,7 +49,7 @@ bad_move : (rules : Rules) (x : Option Renumbered) (c : Command) (place : Place)
 unfolding line_move
 bad_move rules x c place s bad = rw bad refl
 
--- and so is one behind anything but blanks, whatever it gives
+-- and so is one after anything but blanks, whatever it gives
 late_move : (rules : Rules) (x : Option Renumbered) (c : Command) (place : Place) (s : State) → c.first ≡ false → line_move rules x c place s ≡ Stops BadLine []
 unfolding line_move
 late_move rules None c place s late = refl
@@ -109,7 +109,7 @@ module _ {R : Type 0} (limits : Limits) (rules : Rules) (unread : R → List ℕ
       (line_comes rules unread (around limits rules unread macros v f outer) (own_conditions f.conditions_below v) f (include_stack_state limits macros v (f ∷ outer)) (Stops BadLine [])
       (record { some = some; ends = ends }) plain is (bad_move rules _ _ _ _ (ap renumbered (given_text held some is) ∙ bad)))
 
-  -- a `line` behind anything but blanks
+  -- a `line` after anything but blanks
   pub include_stack_late_line : (include_stack : List (File R)) → 0 < length (held_of (inner_buffer include_stack)) → EndsHeld (inner_buffer include_stack)
       → (inner_buffer include_stack).mode ≡ Plain → IsDirective Line (held_of (inner_buffer include_stack)) → inner_blanks include_stack ≡ false
       → include_stack_left limits rules unread macros v include_stack ≡ leaves (fails (fault_at BadLine (inner_buffer include_stack).line [] (include_stack_state limits macros v include_stack))) (include_stack_state limits macros v include_stack)
@@ -143,7 +143,7 @@ held_short e sound files some =
     let range = sound.in_range.line_bytes.1 in
     omega arith
 
--- as many are open behind a change of the innermost
+-- as many are open after a change of the innermost
 some_inner : {R : Type 0} (change : File R → File R) (include_stack : List (File R)) → 0 < length include_stack → 0 < length (with_inner change include_stack)
 some_inner change [] some = some
 some_inner change (f ∷ outer) some = some
@@ -193,7 +193,7 @@ module _ {S R : Type 0} (g : Ghosts S R) (e : EngineView S R) (ready : IsReady e
   left_late_line late =
       include_stack_late_line e.limits (run_rules g e) g.unread e.table.macros e.conditions live e.files.include_stack some (inner_facts e.files ready.include_stack ready.files).ends plain is late
 
--- a `line` that was used, and what is pending behind it
+-- a `line` that was used, and what is pending after it
 pub renumbers_by : {S R : Type 0} (given : GivenLine) (old used shown new : EngineView S R) (from lines : ℕ) (pending then_pending : PendingView) (name : List ℕ) (line : ℕ)
     → used ≡ record old { files = record old.files { include_stack = with_inner (consumed_file (5 + given.stop) lines) old.files.include_stack } }
     → shown ≡ record used { files = record used.files { include_stack = with_inner (renumbered_file from given.number given.name) used.files.include_stack } }

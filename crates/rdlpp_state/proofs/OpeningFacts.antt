@@ -114,7 +114,7 @@ begins b h = grind (arith, nat_tests)
 within : (b : ℕ) → 128 ≤ b → b < 192 → (leb 128 b && leb b 191) ≡ true
 within b h i = grind (arith, nat_tests)
 
--- a byte behind the end goes on with nothing
+-- a byte after the end goes on with nothing
 goes_on-past : (bytes : List ℕ) (n : ℕ) → length bytes ≤ n → goes_on bytes n ≡ false
 unfolding goes_on
 goes_on-past bytes n h = grind (arith, get_or_past)

@@ -1,4 +1,4 @@
--- What remains of the open sources behind skipped text that is passed.
+-- What remains of the open sources after skipped text that is passed.
 use Rattle.std.proofs.Common.{◌≡◌, ℕ, ◌+◌, ◌-◌, ◌<◌, Bool, true, false, cond, List, [], ◌∷◌, ◌++◌, length, take, drop, Option, None, Some, refl, sym, ap, subst, ◌∙◌, arith, ◌≤◌, slice_index, take-add, eqb-true, length-drop}
 use Rattle.std.specs.List.{list_all}
 use Rattle.std.proofs.lemmas.Bool.{and_parts}
@@ -57,7 +57,7 @@ use Rattle.rdlpp_state.specs.OpenConditionals.{inner_below, outer_open}
 use Rattle.rdlpp_state.specs.Remaining.{file_state, include_stack_left, include_stack_state, waiting_around}
 use Rattle.rdlpp_state.proofs.IncludeStackLeft.{fails_include_stack, moved, include_stack_broken, none_held, place_inside, place_skipped, text_entered, ends_mid_line_consumed, waiting_same}
 
--- What remains behind a stretch of skipped text that is passed: its LF bytes come before.
+-- What remains after a stretch of skipped text that is passed: its LF bytes come before.
 
 -- a directive that doesn't count stands by itself, and is a word
 uncounted : (d : Directive) → counts d ≡ false → (stands_by_itself d ≡ true) × (has_own_token d ≡ false)
@@ -151,7 +151,7 @@ module _ {R : Type 0} (rules : Rules) (unread : R → List ℕ) (ws : List Waiti
     abbrev left : File R → Passage
     left f = source_left rules unread ws (Skipped n p os) f s
 
-    -- a source of which so many bytes are passed, behind which plain text stands
+    -- a source of which so many bytes are passed, after which plain text stands
     abbrev pub passed : File R → ℕ → File R
     passed f len = consumed_file len (line_ends (take len (held_of f.buffer))) (with_file_buffer (entered_mode f.buffer Plain) f)
 
@@ -259,7 +259,7 @@ module _ {R : Type 0} (rules : Rules) (unread : R → List ℕ) (ws : List Waiti
         ap (λ (first : Bool). all_resumed rules ws (Skipped n p os) first (tokens_left unread two.buffer) s) blanks
         ∙ ap (λ (ts : List SourceToken). all_resumed rules ws (Skipped n p os) both.blanks ts s) tokens
 
-    -- bytes are held behind what is passed
+    -- bytes are held after what is passed
     holds_after : (f : File R) (from : ℕ) → HoldsFront f.buffer → from < length (held_of f.buffer) → HoldsFront (passed f from).buffer
     unfolding entered_mode held_of
     holds_after f from holds inside =
@@ -291,7 +291,7 @@ module _ {R : Type 0} (rules : Rules) (unread : R → List ℕ) (ws : List Waiti
           then_.1,
         )
 
-    -- a stretch behind which one step more is passed
+    -- a stretch after which one step more is passed
     stretch_by : (f : File R) (from len : ℕ) (mid next : Mode) → HoldsFront f.buffer → IsPassed f.buffer.mode (held_of f.buffer) from mid → from < length (held_of f.buffer)
         → IsPassedOnce mid (drop from (held_of f.buffer)) len next → Passes f (from + len) × (next ≡ Plain)
     stretch_by f from len mid next holds Begins inside once =
@@ -364,7 +364,7 @@ module _ {R : Type 0} (limits : Limits) (rules : Rules) (unread : R → List ℕ
           fails_include_stack limits rules unread macros outer v f (Skipped n o own_conditionals) _ (place_skipped f.conditions_below v n o os is_open below skips)
           (skipped_unclosed_left rules unread waiting o own_conditionals f here n has_known_texts new fills t plain)
 
--- What remains of the open sources behind skipped text that is passed in the innermost one, and where a conditional of its own is open
+-- What remains of the open sources after skipped text that is passed in the innermost one, and where a conditional of its own is open
 -- at its end.
 
 -- bytes are held of the innermost source

@@ -444,7 +444,7 @@ conditions_ended limits v include_stack some s result w (EndsNone alone wrong st
 conditions_ended limits v include_stack some s result w (EndsOwn live o os is_open below skips done moves) = grind arith
 conditions_ended limits v include_stack some s result w (EndsInner n o os is_open below skips done moves) = grind arith
 
--- what always holds behind an `endif`
+-- what always holds after an `endif`
 pub conditions_end : {R A : Type 0} (limits : Limits) (v : ConditionsView) (include_stack : List (File R)) → 0 < length include_stack → AreConditions limits v include_stack → (result : Result A FaultKind) (w : ConditionsView) (below : ℕ)
     → below ≡ inner_below include_stack → Closes (place_of below v) result v w → AreConditions limits w include_stack
 conditions_end {R} {A} limits v include_stack some s result w below same h = grind (arith, inner_most, conditions_ended, ends_one)

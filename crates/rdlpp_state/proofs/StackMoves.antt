@@ -39,7 +39,7 @@ unfolding ends_mid_line_after in_line
 ends_mid_line_is ends_mid_line [] = refl
 ends_mid_line_is ends_mid_line (b ∷ bs) = ends_mid_line_is (not (is_line_end b)) bs
 
--- the LF that is added behind a text
+-- the LF that is added after a text
 added_by : (text : List ℕ) → (if ends_mid_line_after false text then 10 ∷ [] else []) ≡ added_end text
 unfolding line_end_if
 added_by text = ap (λ (t : Bool). if t then 10 ∷ [] else []) (ends_mid_line_is false text) ∙ sym (added_end-in_line text)
@@ -135,7 +135,7 @@ pub record Lands {R : Type 0} (limits : Limits) (v w : ConditionsView) (now : Li
   pub state : t ≡ include_stack_state limits now w new
   pub outer : outer_open (inner_below old) w.open_now ≡ outer_open (inner_below old) v.open_now
 
--- a source was found whose text a move of the innermost source enters, in live text, behind which its state is the same
+-- a source was found whose text a move of the innermost source enters, in live text, after which its state is the same
 pub record Admits {R : Type 0} (limits : Limits) (rules : Rules) (unread : R → List ℕ) (macros : List Macro) (v : ConditionsView) (old new : List (File R)) (os : List Progress) (path text : List ℕ) (found : Found R) : Type 0 where
   pub live : v.skipped ≡ None
   pub own : os ≡ own_conditions (inner_below old) v
@@ -226,7 +226,7 @@ used_state limits macros now v (f ∷ outer) len = refl
 abbrev pub opened_at : State → ℕ → Bool → Progress
 opened_at s line live = record { line = shown_line s.shift line; taken = live; closing = false }
 
--- an open conditional behind a branch
+-- an open conditional after a branch
 abbrev pub branched : Progress → Bool → Bool → Progress
 branched o live closing = record { line = o.line; taken = o.taken || live; closing = closing }
 

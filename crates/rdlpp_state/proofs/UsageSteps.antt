@@ -87,7 +87,7 @@ same_left : (rules : Rules) (s : State) (macros : List Macro) (old new : Expansi
     → open_left rules s old.line old.depth (texts_of macros old.arguments) new.opens ≡ open_left rules s new.line new.depth (texts_of macros new.arguments) new.opens
 same_left rules s macros old new stays = grind (arith, same_kept)
 
--- the open texts go on over some bytes, before what goes on behind them
+-- the open texts go on over some bytes, before what goes on after them
 texts_go : (rules : Rules) (s : State) (macros : List Macro) (old new : ExpansionView) (bytes : List ℕ) (p : Passage)
     → open_left rules s old.line old.depth (texts_of macros old.arguments) old.opens ≡ and_then (gives bytes) (open_left rules s old.line old.depth (texts_of macros old.arguments) new.opens) → StaysOpen old new
     → goes_on (texts_left rules s macros old) (λ after. p) ≡ after_bytes bytes (goes_on (texts_left rules s macros new) (λ after. p))
@@ -239,7 +239,7 @@ placed_word texts result fault is placed = let p : IsPlacedStep texts (RefusedSt
 pub fault_text : (result : CursorStep) (fault : CursorFault) → result ≡ RefusedStep fault → IsTextFault result → is_text_fault fault.kind ≡ true
 fault_text result fault is kind = let p : IsTextFault (RefusedStep fault) = subst (λ (r : CursorStep). IsTextFault r) is kind in p
 
--- A usage that is opened: what remained of the open sources is its open texts and then what remains of the open sources behind it.
+-- A usage that is opened: what remained of the open sources is its open texts and then what remains of the open sources after it.
 
 -- what goes on from a state goes on from that one alone
 goes_from_by : (bytes : List ℕ) (f : Option Report) (s : State) (next : State → Passage)
@@ -347,7 +347,7 @@ module _ {S R : Type 0} (g : Ghosts S R) (rules : Rules) (e : EngineView S R) (d
       drained_after (inner_name e.files.include_stack) e.pending (goes_on (texts_left rules (state_of e) e.table.macros e.expansion) (λ after. p)) drained
       ∙ silent_texts rules (state_of e) e.table.macros e.expansion p idle
 
-  -- before a usage that is opened it is that of the engine with the texts open and the source behind the usage
+  -- before a usage that is opened it is that of the engine with the texts open and the source after the usage
   pub opened_text : (new : List (File R)) (used : List ℕ) (x : ExpansionView) (s : S) (line : ℕ) (name : List ℕ) → new ≡ with_inner (used_file (inner_buffer new) used) e.files.include_stack
       → text_left g.unread (inner_buffer e.files.include_stack) ≡ used ++ text_left g.unread (inner_buffer new)
       → ((t : State) (ws : List Waiting) (os : List Progress) → t.macros ≡ e.table.macros → TellsUsage rules t g.unread ws os e.table.macros line name Opened x e.files.include_stack new)

@@ -59,11 +59,11 @@ pub padded_none : (n : ℕ) → padded (suc n) [] ≡ 0 ∷ padded n []
 unfolding padded
 padded_none n = grind arith
 
--- the digits behind one that falls
+-- the digits after one that falls
 pub after_within : (n owing : ℕ) (ds : List ℕ) → AreDigits ds → owing < 2 ^ 31 → number_of (padded n ds ++ owing ∷ []) < (2 ^ 31) ^ length (padded n ds ++ owing ∷ [])
 after_within n owing ds all few = number_within (padded n ds ++ owing ∷ []) (digits_append (padded n ds) (owing ∷ []) (digits_padded n ds all) (few, tt))
 
--- as many digits stand behind each
+-- as many digits stand after each
 pub after_size : (n pending owing : ℕ) (old new : List ℕ) → length old ≤ n → length new ≤ n → length (padded n new ++ owing ∷ []) ≡ length (padded n old ++ pending ∷ [])
 after_size n pending owing old new fits room =
     length-append (padded n new) (owing ∷ []) ∙ (ap (λ (k : ℕ). k + 1) (padded_size n new room ∙ sym (padded_size n old fits)) ∙ sym (length-append (padded n old) (pending ∷ [])))
@@ -75,7 +75,7 @@ pub power_some : (n : ℕ) → 0 < (2 ^ 31) ^ n
 power_some zero = lit< tt
 power_some (suc n) = let less = power_some n in rw pow-suc (omega arith)
 
--- a number with a smaller digit behind the same ones
+-- a number with a smaller digit after the same ones
 pub digits_fall : (before : List ℕ) (a b : ℕ) (t u : List ℕ) → length t ≡ length u → a < b → number_of t < (2 ^ 31) ^ length t
     → number_of (before ++ a ∷ t) < number_of (before ++ b ∷ u)
 unfolding number_of
@@ -96,7 +96,7 @@ work_by : (includes depth pending d : ℕ) (before cursors : List ℕ) → work_
 unfolding work_of padded
 work_by includes depth pending d before cursors = grind (arith, append_assoc)
 
--- the last digit is smaller, whatever texts are open behind it
+-- the last digit is smaller, whatever texts are open after it
 work_less : (includes depth pending owing a b : ℕ) (before old new : List ℕ) → a < b → length old ≤ depth → length new ≤ depth → AreDigits new → owing < 2 ^ 31
     → work_of includes depth (before ++ a ∷ []) new owing < work_of includes depth (before ++ b ∷ []) old pending
 work_less includes depth pending owing a b before old new less fits room all few = grind (arith, length-append, after_size, number_within, digits_append, digits_zeros, digits_padded, work_by, digits_fall)
@@ -259,13 +259,13 @@ entered_falls old new limits before idle entered room few =
 
 -- The work left falls where the digits of the open texts fall.
 
--- a digit falls behind the same ones, whatever stands behind it
+-- a digit falls after the same ones, whatever stands after it
 one_falls : (head : List ℕ) (n pending owing a b : ℕ) (old new : List ℕ) → length old ≤ n → length new ≤ n → AreDigits new → owing < 2 ^ 31 → a < b
     → number_of (head ++ ((a ∷ padded n new) ++ owing ∷ [])) < number_of (head ++ ((b ∷ padded n old) ++ pending ∷ []))
 one_falls head n pending owing a b old new fits room all few less =
     digits_fall head a b (padded n new ++ owing ∷ []) (padded n old ++ pending ∷ []) (after_size n pending owing old new fits room) less (after_within n owing new all few)
 
--- digits that fall make a smaller number, behind any others and before any count of what is pending
+-- digits that fall make a smaller number, after any others and before any count of what is pending
 pub number_falls : (head : List ℕ) (depth pending owing : ℕ) (old new : List ℕ) → AreFalling old new → length old ≤ depth → length new ≤ depth → AreDigits new → owing < 2 ^ 31
     → number_of (head ++ (padded depth new ++ owing ∷ [])) < number_of (head ++ (padded depth old ++ pending ∷ []))
 unfolding AreFalling

@@ -36,7 +36,7 @@ inner_path (f ∷ outer) = f.path.bytes
 abbrev pub is_bad_name : List ℕ → Bool
 is_bad_name name = (length name == 0) || not (is_utf8 name)
 
--- what is held of the innermost source begins with an `include` that asks for a search: a string with a good name stands behind
+-- what is held of the innermost source begins with an `include` that asks for a search: a string with a good name stands after
 -- it, and one more source may be opened (this project's profile)
 pub record IsSearch {S R : Type 0} (e : EngineView S R) : Type 0 where
   pub start : ℕ

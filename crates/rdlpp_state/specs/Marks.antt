@@ -20,7 +20,7 @@ abbrev pub told_position : Option Position → Option PlaceView
 told_position None = None
 told_position (Some p) = Some (record { name = p.name.now; line = p.line; step = p.step })
 
--- where the piece begins that was lent last; whether the LF that is pending stands behind a `line` or behind an included source; and the name
+-- where the piece begins that was lent last; whether the LF that is pending stands after a `line` or after an included source; and the name
 -- and the line that such an LF shows
 pub record MarksView : Type 0 where
   pub lent : Lent
@@ -53,7 +53,7 @@ lends_line line m = record m { lent = Line line }
 unfoldable pub lends_usage : ℕ → MarksView → MarksView
 lends_usage line m = record m { lent = Usage line }
 
--- the first of the LF bytes that are pending is lent, where the innermost source stands on a physical line behind them
+-- the first of the LF bytes that are pending is lent, where the innermost source stands on a physical line after them
 unfoldable pub lends_line_end : ℕ → ℕ → MarksView → MarksView
 lends_line_end line_ends line m =
     if m.ending then record m { lent = Ending; ending = false } else record m { lent = Line (line - line_ends) }
@@ -67,7 +67,7 @@ lends_origin (Some origin) m = record m { lent = Origin origin.number }
 unfoldable pub lends_pending : PendingView → ℕ → MarksView → MarksView
 lends_pending pending line m = if pending.line_ends == 0 then lends_origin pending.origin m else lends_line_end pending.line_ends line m
 
--- so many LF bytes are pending behind a `line` or behind an included source, which show a name and a line
+-- so many LF bytes are pending after a `line` or after an included source, which show a name and a line
 unfoldable pub ends_line : ℕ → List ℕ → ℕ → MarksView → MarksView
 ends_line line_ends name line m = record m { ending = not (line_ends == 0); name = name; line = line }
 

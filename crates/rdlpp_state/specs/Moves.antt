@@ -67,7 +67,7 @@ pub record Closes {S R : Type 0} (old new : EngineView S R) : Type 0 where
   pub ended : length old.conditions.open_now ≡ inner_below old.files.include_stack
   pub becomes : new ≡ record old { phase = Closed; files = record old.files { include_stack = [] } }
 
--- an included source has ended, with no conditional of its own open: the one around it goes on, behind an LF where the text ends in
+-- an included source has ended, with no conditional of its own open: the one around it goes on, after an LF where the text ends in
 -- mid-line, and the origin line of the `include` (this project's profile)
 pub record Returns {S R : Type 0} (old new : EngineView S R) : Type 0 where
   pub mode : (inner_buffer old.files.include_stack).mode ≡ Plain
@@ -81,7 +81,7 @@ Ends old new None = Returns old new
 Ends old new (Some End) = Closes old new
 Ends old new (Some Fault) = StopsOpen old new ⊎ StopsUnclosed old new
 
--- what stands behind the word of the `define` at the front of what is held, whose logical line has so many bytes
+-- what stands after the word of the `define` at the front of what is held, whose logical line has so many bytes
 abbrev pub define_rest : {S R : Type 0} → EngineView S R → ℕ → List ℕ
 define_rest e len = drop 7 (take len (held_of (inner_buffer e.files.include_stack)))
 

@@ -10,7 +10,7 @@ pub record OriginView : Type 0 where
   pub part : PendingPart
   pub number : ℕ
 
--- how many LF bytes are pending, and the origin line that is pending behind them
+-- how many LF bytes are pending, and the origin line that is pending after them
 pub record PendingView : Type 0 where
   pub line_ends : ℕ
   pub origin : Option OriginView
@@ -94,7 +94,7 @@ first_piece name_len origin = elim origin.part [
   | Digits ↦ record { part = Digits; len = length (decimal origin.number) }
 ]
 
--- what is pending of an origin line behind its first piece
+-- what is pending of an origin line after its first piece
 unfoldable pub after_piece : OriginView → Option OriginView
 after_piece origin = elim origin.part [
   | LineEnds ↦ None

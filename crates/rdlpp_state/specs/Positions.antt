@@ -12,7 +12,7 @@ use Rattle.rdlpp_state.specs.declared.pending.PendingPiece.{PendingPiece}
 use Rattle.rdlpp_state.specs.declared.positions.LineStep.{LineStep}
 use Rattle.rdlpp_state.specs.declared.positions.LineStep.TheVariants.{Next, Same}
 
--- the place that a fault at a physical line would name, and how the lines go on behind it
+-- the place that a fault at a physical line would name, and how the lines go on after it
 unfoldable pub place_at : LineStep → ℕ → State → PlaceView
 place_at step line s = record { name = s.name; line = shown_line s.shift line; step = step }
 
@@ -24,7 +24,7 @@ usage_place e = place_at Same e.expansion.line (state_of e)
 abbrev pub source_place : {S R : Type 0} → EngineView S R → PlaceView
 source_place e = place_at Next (inner_buffer e.files.include_stack).line (state_of e)
 
--- the place of the first of the LF bytes that are pending: that of a `line` or of the `include` of a source that has ended, where it stands behind
+-- the place of the first of the LF bytes that are pending: that of a `line` or of the `include` of a source that has ended, where it stands after
 -- one; or it is one of those that end the lines before the one on which the innermost source stands (this project's profile)
 unfoldable pub line_end_place : {S R : Type 0} → EngineView S R → PlaceView
 line_end_place e =
@@ -47,8 +47,8 @@ position_of e = elim e.kept [
   | None ↦ if is_open e.phase then marked_place e.marks (state_of e).name (state_of e).shift else None
 ]
 
--- what a step over the open sources that lends no bytes marks: nothing; the place of a `line`, for the LF that is pending behind
--- it; or the place of the `include` of a source that has ended, for the LF that is pending behind that (this project's profile)
+-- what a step over the open sources that lends no bytes marks: nothing; the place of a `line`, for the LF that is pending after
+-- it; or the place of the `include` of a source that has ended, for the LF that is pending after that (this project's profile)
 pub data MarksPlace {S R : Type 0} (at after : EngineView S R) : Type 0 where
   Unmarked : after.marks ≡ at.marks → MarksPlace at after
   AfterLine : (lines : ℕ) → after.marks ≡ ends_line lines (state_of at).name (shown_line (state_of at).shift (inner_buffer at.files.include_stack).line) at.marks → MarksPlace at after

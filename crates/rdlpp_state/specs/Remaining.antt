@@ -57,7 +57,7 @@ unfoldable pub include_stack_state : {R : Type 0} → Limits → List Macro → 
 include_stack_state limits macros v [] = start_state macros limits.includes limits.conditions []
 include_stack_state limits macros v (f ∷ outer) = file_state limits macros (length v.open_now) (length outer) f
 
--- what is written behind an open source, in the one around it: an LF where its text ends in mid-line, and the origin line of
+-- what is written after an open source, in the one around it: an LF where its text ends in mid-line, and the origin line of
 -- the `include`, where asked for (this project's profile)
 unfoldable pub ending_after : {R : Type 0} → Rules → (R → List ℕ) → File R → File R → List ℕ
 ending_after rules unread f around =

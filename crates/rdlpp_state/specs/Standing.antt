@@ -70,7 +70,7 @@ pub data Turns {S R : Type 0} (g : Ghosts S R) (at after : EngineView S R) : Typ
       → AreSound (held_texts after) after.expansion.opens → Turns g at after
 
 -- where a piece stands that an engine lends, its place, and what becomes of that: the bytes at which the innermost cursor stands,
--- where nothing is pending and a text of a usage is open, behind which what stands there is opened, or texts are closed of which
+-- where nothing is pending and a text of a usage is open, after which what stands there is opened, or texts are closed of which
 -- nothing is left, and the open texts alone change; those at which the innermost source's buffer stands, where none is open, and it
 -- goes on after them; the first of what is pending, an LF, a fixed text, the shown name or digits, which is pending no more; or no
 -- bytes. But for no bytes the engine marks where it lent

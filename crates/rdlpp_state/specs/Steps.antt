@@ -71,7 +71,7 @@ pub record LendsText (most : List ℕ → List ℕ) (bytes : List ℕ) (old new 
   pub lent : bytes ≡ most piece
   pub text : old ≡ after_bytes piece new
 
--- what an answer says of what remained of the text, with the state behind it: a piece and then what remains now; the end; or the
+-- what an answer says of what remained of the text, with the state after it: a piece and then what remains now; the end; or the
 -- fault, in the state that the engine stands in
 abbrev pub TellsText : {S R : Type 0} → (List ℕ → List ℕ) → Ghosts S R → Result (Option (List ℕ)) Report → Passage → EngineView S R → Type 0
 TellsText most g (Ok (Some bytes)) old new = LendsText most bytes old (text_of g new)
@@ -153,7 +153,7 @@ IsStarted e = e.phase ≡ Fresh → ⊥
 
 -- a step: a kept fault is answered again and changes nothing, and so is the end; a fault is kept, one of a write that failed
 -- comes only so, and bytes leave none kept; the main text's name; the counts of failures; the output that remained is what was lent
--- and then the output that remains; so it is with the text and the state behind it; where a read or a search failed, the same text remains; what
+-- and then the output that remains; so it is with the text and the state after it; where a read or a search failed, the same text remains; what
 -- is pending and what changed at the end and at a fault; the work left falls; bytes come of an open text alone; what may still be lent;
 -- the room of the table; the bound holds; before a piece so many parts of it at most lent none
 pub record StepSpec {S R : Type 0} (g : Ghosts S R) (silent : ℕ) (left : EngineView S R → Outcome) (spent : Result (Option (List ℕ)) Report → ℕ)

@@ -21,7 +21,7 @@ pub enum PendingPart {
     Label,
     /// The name that is shown.
     Name,
-    /// What stands behind the name in an origin line.
+    /// What stands after the name in an origin line.
     Colon,
     /// The number of an origin line.
     Digits,
@@ -43,7 +43,7 @@ struct OriginLine {
     digits: ArrayString<20>,
 }
 
-/// Texts that are pending: LF bytes, and behind them an origin line.
+/// Texts that are pending: LF bytes, and after them an origin line.
 #[derive(Drop)]
 pub struct Pending {
     line_ends: usize,

@@ -8,7 +8,7 @@ use arrayvec::ArrayString;
 use rdlpp_read::Shift;
 use std::marker::Model;
 
-/// How the lines of a piece go on behind its first byte.
+/// How the lines of a piece go on after its first byte.
 #[derive(Clone, Copy, Debug, PartialEq, Eq)]
 pub enum LineStep {
     /// Each LF byte of the piece begins the next line of its source.
@@ -24,7 +24,7 @@ pub struct Position<'a> {
     pub name: &'a str,
     /// The line that the source shows, counted from 1.
     pub line: u64,
-    /// How the lines go on behind the first byte.
+    /// How the lines go on after the first byte.
     pub step: LineStep,
 }
 
@@ -46,18 +46,18 @@ enum Lent {
     Line(u64),
     // In a usage whose backquote stands on a physical line of the innermost source.
     Usage(u64),
-    // Behind a `line` or behind an included source.
+    // After a `line` or after an included source.
     Ending,
     // In an origin line with a number.
     Origin(u64),
 }
 
-/// Where the piece stands that was lent last, and the LF that is pending behind a `line` or behind an
+/// Where the piece stands that was lent last, and the LF that is pending after a `line` or after an
 /// included source.
 #[derive(Drop)]
 pub struct Marks {
     lent: Lent,
-    // whether the LF that is pending stands behind a `line` or behind an included source
+    // whether the LF that is pending stands after a `line` or after an included source
     ending: bool,
     // the name and the line that such an LF shows
     name: ArrayString<1024>,
@@ -140,7 +140,7 @@ impl Marks {
         self.lent = Lent::Line(line.saturating_sub(line_ends as u64));
     }
 
-    /// So many LF bytes are pending behind a `line` or behind an included source, at most one, which show a
+    /// So many LF bytes are pending after a `line` or after an included source, at most one, which show a
     /// name and a line.
     #[tactic(auto, unfolding(crate::specs::Marks::ends_line))]
     pub fn end_line(&mut self, line_ends: usize, name: &ArrayString<1024>, line: u64)

@@ -1,4 +1,4 @@
--- The list of an index: the places with slack behind those of each group, and the offsets behind all, in one list.
+-- The list of an index: the places with slack after those of each group, and the offsets after all, in one list.
 use Rattle.std.proofs.Common.{◌≡◌, ℕ, zero, suc, ◌+◌, ◌-◌, ◌*◌, ◌/◌, ◌^◌, ◌<◌, ◌≤◌, List, [], ◌++◌, All, length, get_or, set, length-append, length-set, map, take, drop, insert, remove, ap, sym, subst, ◌∙◌, arith, inl, inr, refl, replicate, ◌≢◌, get_or-drop, get_or-take, length-drop, length-take-le, take-append-drop, drop_at, take_at}
 use Rattle.std.specs.List.{copy_within, remove_range, slice_range}
 use Rattle.std.proofs.lemmas.Bool.{cases_lt, cond-false, cond-true, le-ltb, lt-ltb}
@@ -76,7 +76,7 @@ module _ (before starts : List ℕ) (s : IsSpaced before starts) where
         ]
       ]
 
-  -- a place of a group lies behind the slack before that group
+  -- a place of a group lies after the slack before that group
   place_is : (items : List ℕ) (at g : ℕ) → IsIn starts at g → get_or (places_in items before starts) at 0 ≡ get_or items (at + get_or before g 0) 0
   unfolding places_in
   place_is items at g i =
@@ -95,7 +95,7 @@ places_are items before starts places s e h =
     let i = own_group starts k s.first (omega (arith, places_long items before starts)) in
     place_is before starts s items k (group_of starts k 31) i ∙ h k (group_of starts k 31) i)
 
--- what is behind one place of a list is what is behind another one of another list
+-- what is after one place of a list is what is after another one of another list
 same_rest : (xs ys : List ℕ) (i j : ℕ) → length xs + j ≡ length ys + i → i ≤ length xs → ((p : ℕ) → get_or xs (i + p) 0 ≡ get_or ys (j + p) 0) → drop i xs ≡ drop j ys
 same_rest xs ys i j e l h =
     ext_get_or 0 (drop i xs) (drop j ys) (omega (arith, length-drop i xs, length-drop j ys)) (λ k m. get_or-drop i xs k 0 ∙ (h k ∙ sym (get_or-drop j ys k 0)))
@@ -155,11 +155,11 @@ put items new at end place o l e =
       following = λ p h. other p (λ s. absurd (omega arith)) ∙ c.following p (omega arith);
     }
 
--- some slack lies before each group behind one that has slack
+-- some slack lies before each group after one that has slack
 pub some_slack : (before starts : List ℕ) (group : ℕ) → IsSpaced before starts → group < 32 → get_or before group 0 < get_or before (group + 1) 0 → All (λ n. 0 < n) (slice_range before (group + 1) 33)
 some_slack before starts group s h k = part_all (λ n. 0 < n) (group + 1) 33 before (omega (arith, s.groups)) (λ p a b. omega (arith, s.rising (group + 1) p a (omega arith)))
 
--- the groups behind one begin a place later, and less slack lies before them
+-- the groups after one begin a place later, and less slack lies before them
 module _ (items new before new_before starts new_starts : List ℕ) (bucket gap place : ℕ) (small : bucket < 1024) (s : IsSpaced before starts)
     (low : get_or starts bucket 0 ≤ gap) (high : gap ≤ get_or starts (bucket + 1) 0) (inside : get_or starts 1024 0 + get_or before 32 0 ≤ length items)
     (some : get_or before (bucket / 32) 0 < get_or before (bucket / 32 + 1) 0) (l : IsLater bucket starts new_starts)
@@ -312,7 +312,7 @@ module _ (items new before new_before starts new_starts : List ℕ) (bucket gap 
     room = ap (λ (n : ℕ). let r : IndexRoom = record { places = most; formal_offsets = n } in r) h;
   }
 
--- A place that goes: what stands behind it in its group moves one to the front.
+-- A place that goes: what stands after it in its group moves one to the front.
 
 record IsTaken (items new : List ℕ) (at end : ℕ) : Type 0 where
   long : length new ≡ length items
@@ -377,12 +377,12 @@ closed_places items new before starts taken s c =
     c.places (k + get_or before g 0) (omega (arith, i.high, s.rising g 32 (omega (arith, i.some)) (omega arith)))
     ∙ (ap (closed taken) (sym (place_is before starts s items k g i)) ∙ sym (get_or-map (closed taken) (places_in items before starts) k 0 0 fits)))
 
--- more slack may lie before each group behind one
+-- more slack may lie before each group after one
 pub slack_fits : (len capacity : ℕ) (before starts : List ℕ) (given_up most group : ℕ) → IsArranged len capacity before starts given_up most → 0 < get_or starts 1024 0 → All (λ n. n + 1 < 2 ^ 32) (slice_range before (group + 1) 33)
 slack_fits len capacity before starts given_up most group a h =
     part_all (λ n. n + 1 < 2 ^ 32) (group + 1) 33 before (omega (arith, a.spaced.groups)) (λ p l k. omega (arith, a.spaced.rising p 32 (omega arith) (omega arith), a.little, a.narrow))
 
--- the groups behind one begin a place sooner, and more slack lies before them
+-- the groups after one begin a place sooner, and more slack lies before them
 module _ (items new before new_before starts new_starts : List ℕ) (bucket at : ℕ) (small : bucket < 1024) (s : IsSpaced before starts)
     (i : IsInBucket starts bucket at) (l : IsSooner bucket starts new_starts)
     (some : (p : ℕ) → bucket < p → p ≤ 1024 → get_or starts bucket 0 < get_or starts p 0)
@@ -437,7 +437,7 @@ module _ (items new before new_before starts new_starts : List ℕ) (bucket at :
   left_end : get_or new_starts 1024 0 + get_or new_before 32 0 ≡ get_or starts 1024 0 + get_or before 32 0
   left_end = omega (arith, sooner 1024 small (omega arith), wider 32 (omega arith) (omega arith))
 
-  -- what stands before the place, and behind it
+  -- what stands before the place, and after it
   front_place : (k g : ℕ) → IsIn new_starts k g → k < at → get_or new (k + get_or new_before g 0) 0 ≡ get_or (remove old_places at) k 0
   front_place k g j h =
       let up_to : g ≤ home = elim (cases_lt home g) [
@@ -611,7 +611,7 @@ one_moved to starts items now next n m t e h l a k =
       following = λ p g. at p ∙ (c.following p (omega arith) ∙ a.following p g);
     }
 
--- what stands so far behind a place moved to where it stands so far behind it as another number says
+-- what stands so far after a place moved to where it stands so far after it as another number says
 pub rest_moved : (xs longer moved : List ℕ) (len at from to : ℕ) → at + from ≤ len → length xs ≡ len → take len longer ≡ xs → length longer ≡ len + (to - from) → moved ≡ take (len - from + to) (copy_within longer (at + from) len (at + to)) → (take at moved ≡ take at xs) × (drop (at + to) moved ≡ drop (at + from) xs)
 rest_moved xs longer moved len at from to h n f l e =
     let both : List ℕ = copy_within longer (at + from) len (at + to) in
@@ -641,7 +641,7 @@ even_spaced before even starts slack s n e = record {
   rising = λ g h a b. omega (arith, e g (omega arith), e h b, mul-le slack g slack h (omega arith) a);
 }
 
--- the list before what is behind its places and slack is as it was, and so are its places
+-- the list before what is after its places and slack is as it was, and so are its places
 pub same_places : (items new before starts : List ℕ) (front : ℕ) → IsSpaced before starts → get_or starts 1024 0 + get_or before 32 0 ≤ front → take front new ≡ take front items → places_in new before starts ≡ places_in items before starts
 same_places items new before starts front s h e =
     places_are new before starts (places_in items before starts) s (places_long items before starts) (λ k g i.
@@ -651,7 +651,7 @@ same_places items new before starts front s h e =
     ∙ (ap (λ (xs : List ℕ). get_or xs (k + get_or before g 0) 0) e
     ∙ (get_or-take front items (k + get_or before g 0) 0 inside ∙ sym (place_is before starts s items k g i))))
 
--- the lists of a spread: with its places gathered, with what is behind them moved, and with the groups moved
+-- the lists of a spread: with its places gathered, with what is after them moved, and with the groups moved
 module _ (items gathered longer moved before even starts : List ℕ) (t : IsSpaced even starts) (a : AreMoved even starts 0 longer moved) where
   pub spread_places : take (get_or starts 1024 0) gathered ≡ places_in items before starts → take (get_or starts 1024 0) longer ≡ take (get_or starts 1024 0) gathered → places_in moved even starts ≡ places_in items before starts
   spread_places g f =
@@ -668,21 +668,21 @@ module _ (items gathered longer moved before even starts : List ℕ) (t : IsSpac
 
 -- Offsets that come or go.
 
-behind : (xs ys : List ℕ) (n i : ℕ) → n + i ≤ length xs → drop n (take (n + i) xs ++ ys) ≡ take i (drop n xs) ++ ys
-behind xs ys n i h =
+after : (xs ys : List ℕ) (n i : ℕ) → n + i ≤ length xs → drop n (take (n + i) xs ++ ys) ≡ take i (drop n xs) ++ ys
+after xs ys n i h =
     let same : n + i - n ≡ i = omega arith in
     drop-append-le n (take (n + i) xs) ys (omega (arith, length-take-le (n + i) xs h))
     ∙ ap (λ (l : List ℕ). l ++ ys) (sym (between_is xs n (n + i)) ∙ ap (λ (k : ℕ). take k (drop n xs)) same)
 
-pub cut_behind : (xs : List ℕ) (n i j : ℕ) → n + i ≤ length xs → drop n (remove_range xs (n + i) (n + j)) ≡ remove_range (drop n xs) i j
-cut_behind xs n i j h = behind xs (drop (n + j) xs) n i h ∙ ap (λ (l : List ℕ). take i (drop n xs) ++ l) (sym (drop-drop j n xs))
+pub cut_after : (xs : List ℕ) (n i j : ℕ) → n + i ≤ length xs → drop n (remove_range xs (n + i) (n + j)) ≡ remove_range (drop n xs) i j
+cut_after xs n i j h = after xs (drop (n + j) xs) n i h ∙ ap (λ (l : List ℕ). take i (drop n xs) ++ l) (sym (drop-drop j n xs))
 
 pub cut_before : (xs : List ℕ) (i j : ℕ) → i ≤ length xs → take i (remove_range xs i j) ≡ take i xs
 cut_before xs i j h = take_at (take i xs) (drop j xs) i (length-take-le i xs h)
 
 -- those before were moved to the back
-pub covered_behind : (xs new : List ℕ) (n i j : ℕ) → i ≤ j → drop (n + (j - i)) new ≡ slice_range xs n (n + i) ++ drop (n + i + (j - i)) xs → drop (n + (j - i)) new ≡ remove_range (drop n xs) i j
-covered_behind xs new n i j h e =
+pub covered_after : (xs new : List ℕ) (n i j : ℕ) → i ≤ j → drop (n + (j - i)) new ≡ slice_range xs n (n + i) ++ drop (n + i + (j - i)) xs → drop (n + (j - i)) new ≡ remove_range (drop n xs) i j
+covered_after xs new n i j h e =
     let count : n + i - n ≡ i = omega arith in
     let back : n + i + (j - i) ≡ n + j = omega arith in
     e ∙ (ap (λ (m : ℕ). slice_range xs n (n + i) ++ drop m xs) back ∙ (ap (λ (m : ℕ). take m (drop n xs) ++ drop (n + j) xs) count ∙ ap (λ (l : List ℕ). take i (drop n xs) ++ l) (sym (drop-drop j n xs))))

@@ -30,7 +30,7 @@ unfolding whole is_perl ends_default
 comma_read l rest e =
     left_first (Some l) Plain (44 ∷ rest) (omega arith) ∙ (ap (λ (t : Token). by_first (Some l) t (44 ∷ rest)) (comma_token rest) ∙ cond-true _ _ _ (and_from (eqb l 0) true e refl))
 
--- a text that fills a level up is read up to a `,` behind it
+-- a text that fills a level up is read up to a `,` after it
 fills_read : (fuel l : ℕ) (xs rest : List ℕ) → length xs ≤ fuel → AllByRecursion IsCleanToken (tokens_from Plain 0 xs) → fills_text l xs ≡ true → left_in (Some l) Plain (xs ++ 44 ∷ rest) ≡ Sound xs (44 ∷ rest)
 unfolding tokens_from fills onto
 fills_read fuel l [] rest le all h = comma_read l rest h
@@ -56,7 +56,7 @@ fills_read (suc fuel) l (b ∷ bs) rest le all h =
     let following : drop t.len (T ++ ys) ≡ after ++ ys = drop-append-le t.len T ys part.inside in
     grind (arith, left_first, by_first, cond-false, not-true, take-append-drop)
 
--- a default text is read back up to the `,` behind it
+-- a default text is read back up to the `,` after it
 pub default_read_back : (text rest : List ℕ) → is_default text ≡ true → cleared (Some 0) (text ++ 44 ∷ rest) ≡ Sound text (44 ∷ rest)
 unfolding is_default cleared
 default_read_back text rest h = grind (arith, and_parts, fills_read, clean_tokens, clean_text)

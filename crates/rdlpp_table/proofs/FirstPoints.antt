@@ -41,7 +41,7 @@ pub record IsStopping (formals : List Formal) (from : ℕ) (text : List ℕ) (mo
   pub same : next_expansion_point formals at (tokens_from mode 0 rest) rest ≡ point_of formals from text
   pub place : at + length rest ≡ from + length text
 
--- behind what is no expansion point comes the other one
+-- after what is no expansion point comes the other one
 pub or_none : (s other : ExpansionPoint) → is_none s ≡ true → or_point s other ≡ other
 unfolding is_none or_point
 or_none point.None other h = refl
@@ -197,7 +197,7 @@ unfolding is_word
 letter_some [] some h = absurd (omega (arith, some))
 letter_some (b ∷ bs) some h = grind (arith, prefix_more)
 
--- what stands behind a place, as a range up to the end
+-- what stands after a place, as a range up to the end
 pub after_place : (n : ℕ) (xs : List ℕ) → take (length xs - n) (drop n xs) ≡ drop n xs
 after_place n xs = take_all (length xs - n) (drop n xs) (omega (arith, length-drop n xs))
 
@@ -267,7 +267,7 @@ bare_row bs t (AtBack h e) is = absurd (let k : Back ≡ BareBackquote = sym (ap
 bare_row bs t (AtBare h g e) is = (ap (λ (u : Token). u.len) e, ap (λ (u : Token). u.next_mode) e)
 bare_row bs t (AtPlain h q) is = absurd (false≢true (sym (ap is_plain_kind is) ∙ h))
 
--- behind a usage stands plain text
+-- after a usage stands plain text
 back_row : (bs : List ℕ) (t : Token) → Row bs t → t.kind ≡ Back → t.next_mode ≡ Plain
 unfolding whole is_plain_kind
 back_row bs t (AtPerl h e) is = absurd (let k : Perl ≡ Back = sym (ap (λ (u : Token). u.kind) e) ∙ is in cc)
@@ -291,7 +291,7 @@ point_token formals at bs bytes h =
     let t = token_of Plain bs in
     point_kind formals at t.len t.kind t.next_mode bs bytes (token_of-row bs, plain_token-run bs) h
 
--- the first token of a text stays so where the text is cut behind it
+-- the first token of a text stays so where the text is cut after it
 pub cut_token : (k : ℕ) (bs : List ℕ) → (let t = token_of Plain bs in 0 < t.len → t.len ≤ k → t.len ≤ length bs → t.next_mode ≡ Plain → token_of Plain (take k bs) ≡ t)
 cut_token k bs some le inside closed =
     let xs = take k bs in
@@ -304,7 +304,7 @@ cut_more (suc n) zero bs h = absurd (omega arith)
 cut_more (suc n) (suc k) [] h = refl
 cut_more (suc n) (suc k) (b ∷ bs) h = ap (λ (l : List ℕ). b ∷ l) (cut_more n k bs (omega arith))
 
--- the expansion point at the front of a text is that of the text which is cut behind it
+-- the expansion point at the front of a text is that of the text which is cut after it
 pub front_first : (formals : List Formal) (at k : ℕ) (bs : List ℕ) → (let t = token_of Plain bs in 0 < length bs → is_none (point_at formals at t (take t.len bs)) ≡ false → point_end (point_at formals at t (take t.len bs)) ≤ at + k → point_of formals at (take k bs) ≡ point_at formals at t (take t.len bs))
 unfolding point_of
 front_first formals at k bs some h inside = grind (arith, token_of-part, point_token, cut_token, length-take, cut_more, one_token, or_some)
@@ -347,9 +347,9 @@ kind_end formals at len k mode bytes h = omega arith
 pub token_end : (formals : List Formal) (at : ℕ) (t : Token) (bytes : List ℕ) → 0 < t.len → point_end (point_at formals at t bytes) ≤ at + t.len
 token_end formals at t bytes h = kind_end formals at t.len t.kind t.next_mode bytes h
 
--- The first expansion points of a text, one behind another.
+-- The first expansion points of a text, one after another.
 
--- an expansion point that is found behind others is one more of them
+-- an expansion point that is found after others is one more of them
 pub points_more : (formals : List Formal) (text : List ℕ) (all : List PackedPoint) (i from : ℕ) (k : PackedPoint) → i < length all → k ≡ kept_from formals text from → ((n : ℕ) → points_after (i + n) formals text 0 ≡ take i all ++ points_after n formals text from) → (n : ℕ) → points_after (i + 1 + n) formals text 0 ≡ take (i + 1) (set all i k) ++ points_after n formals text k.end
 unfolding points_after
 points_more formals text all i from k h e f n =
@@ -360,7 +360,7 @@ points_more formals text all i from k h e f n =
 abbrev unknown : PackedPoint
 unknown = endless 1 0
 
--- from a place that is too far behind on nothing is known
+-- from a place that is too far on nothing is known
 points_beyond : (formals : List Formal) (text : List ℕ) (n from : ℕ) → 65535 ≤ from → points_after n formals text from ≡ replicate n unknown
 unfolding points_after kept_from endless
 points_beyond formals text zero from h = refl
@@ -375,7 +375,7 @@ rest_unknown all i k e =
     ∙ (ap (λ (l : List PackedPoint). drop 1 l) e
     ∙ (drop-replicate 1 (10 - i) unknown ∙ ap (λ (m : ℕ). replicate m unknown) less)))
 
--- ten of them are the first expansion points, and fewer are where behind them nothing is known
+-- ten of them are the first expansion points, and fewer are where after them nothing is known
 pub points_whole : (formals : List Formal) (text : List ℕ) (all : List PackedPoint) (i from : ℕ) → i ≤ 10 → (10 ≤ i) ⊎ (65535 ≤ from) → drop i all ≡ replicate (10 - i) unknown → ((n : ℕ) → points_after (i + n) formals text 0 ≡ take i all ++ points_after n formals text from) → (let s : PointCache = record { all = all } in s) ≡ cached_points formals text
 unfolding cached_points points_after
 points_whole formals text all i from l o e f =
@@ -391,7 +391,7 @@ all_points formals text points e = ap (λ (x : PointCache). x.all) e
 abbrev pub no_point : PackedPoint
 no_point = record { end = 0; len = 0; place = 0; plain_argument = 0; kind = kept.None }
 
--- the expansion point at a place among them is the first one from the end of the one before, and those behind it come from its own end on
+-- the expansion point at a place among them is the first one from the end of the one before, and those after it come from its own end on
 pub point_next : (formals : List Formal) (text : List ℕ) (all : List PackedPoint) (d k : PackedPoint) (i start : ℕ) → length all ≡ 10 → i < 10 → drop i all ≡ points_after (10 - i) formals text start → k ≡ get_or all i d → (k ≡ kept_from formals text start) × (drop (i + 1) all ≡ points_after (10 - (i + 1)) formals text k.end)
 unfolding points_after
 point_next formals text all d k i start l h e q = grind (arith, drop_more)

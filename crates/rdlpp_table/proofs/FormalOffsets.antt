@@ -34,7 +34,7 @@ pub compared : (b : Bool) (xs ys : List ℕ) → (b ≡ true → xs ≡ ys) → 
 compared true xs ys f g = sym ((bytes_eq-Decides xs ys).1 (f refl))
 compared false xs ys f g = grind (arith, cases_Bool, bytes_eq-Decides)
 
--- behind the name no name goes on
+-- after the name no name goes on
 pub name_ended : (bytes name : List ℕ) → (formal_read bytes).formal.name ≡ name → not (is_name_byte (get_or bytes (length name) 44)) ≡ true
 unfolding is_name_byte
 name_ended bytes name e = grind (arith, name_length, leb_tells, get_or_past, prefix_len_stops)
@@ -60,14 +60,14 @@ named_by_size bytes name starts len s h n =
     (λ e. started_name bytes name starts s h (sym n ∙ eqb-true len (length name) e))
     (λ e. eq-eqb len (length name) (n ∙ (sym (name_length bytes) ∙ ap length e)))
 
--- behind the name of a formal with nothing behind it are its default text and its comma
+-- after the name of a formal with nothing after it are its default text and its comma
 after_name : (bytes : List ℕ) → formal_bytes (formal_read bytes).formal ≡ bytes → drop (prefix_len is_name_byte bytes) bytes ≡ default_bytes (formal_read bytes).formal.text ++ 44 ∷ []
 unfolding formal_bytes
 after_name bytes h =
     let f : Formal = (formal_read bytes).formal in
     ap (drop (prefix_len is_name_byte bytes)) (sym h) ∙ drop_at f.name (default_bytes f.text ++ 44 ∷ []) (prefix_len is_name_byte bytes) (name_length bytes)
 
--- behind the name, where an `=` stands, there are it, the default text and the comma
+-- after the name, where an `=` stands, there are it, the default text and the comma
 with_default : (text rest : List ℕ) → rest ≡ default_bytes text ++ 44 ∷ [] → get_or rest 0 44 ≡ 61 → rest ≡ 61 ∷ (text ++ 44 ∷ [])
 unfolding default_bytes
 with_default [] rest e h = absurd (let a : 44 ≡ 61 = ap (λ (l : List ℕ). get_or l 0 44) (sym e) ∙ h in omega (arith, a))
@@ -79,11 +79,11 @@ unfolding default_bytes
 without_default [] rest e h = refl
 without_default (b ∷ bs) rest e h = absurd (h (ap (λ (l : List ℕ). get_or l 0 44) e))
 
--- the first byte behind so many is the one at that place
+-- the first byte after so many is the one at that place
 first_after_name : (bytes : List ℕ) (n : ℕ) → get_or (drop n bytes) 0 44 ≡ get_or bytes n 44
 first_after_name bytes n = get_or-drop n bytes 0 44 ∙ ap (λ (k : ℕ). get_or bytes k 44) (let e : n + 0 ≡ n = omega arith in e)
 
--- the same of the bytes behind the name of a formal
+-- the same of the bytes after the name of a formal
 default_after : (bytes : List ℕ) (n : ℕ) → formal_bytes (formal_read bytes).formal ≡ bytes → n ≡ prefix_len is_name_byte bytes → get_or bytes n 44 ≡ 61 → drop n bytes ≡ 61 ∷ ((formal_read bytes).formal.text ++ 44 ∷ [])
 default_after bytes n h e g =
     with_default (formal_read bytes).formal.text (drop n bytes) (ap (λ (k : ℕ). drop k bytes) e ∙ after_name bytes h) (first_after_name bytes n ∙ g)
@@ -175,7 +175,7 @@ pub offsets_by : (b : Bool) (count : ℕ) (list : List ℕ) → flat_map formal_
 unfolding offsets_of
 offsets_by b count list h e = grind (arith, length_list_bytes, count_read)
 
--- the halves of numbers behind other numbers
+-- the halves of numbers after other numbers
 halves-append : (xs ys : List ℕ) → halves (xs ++ ys) ≡ halves xs ++ halves ys
 unfolding halves
 halves-append [] ys = refl
@@ -193,14 +193,14 @@ offset_is : (formal_offsets ns : List ℕ) (i : ℕ) → formal_offsets ≡ halv
 unfolding offset_in
 offset_is formal_offsets ns i e h = ap (λ (l : List ℕ). get_or l (2 * i) 0 + 65536 * get_or l (2 * i + 1) 0) e ∙ whole_from ns i h
 
--- a formal begins behind what those before it take, and behind where the first one begins
+-- a formal begins after what those before it take, and after where the first one begins
 start_from : (at : ℕ) (fs : List Formal) (i : ℕ) → i < length fs → get_or (starts_of at fs) i 0 ≡ at + sum_by formal_size (take i fs)
 unfolding starts_of
 start_from at [] i h = absurd (omega arith)
 start_from at (f ∷ fs) zero h = sym (add-zero at)
 start_from at (f ∷ fs) (suc i) h = omega (arith, start_from (at + formal_size f) fs i (omega arith), sum_by-cons formal_size f (take i fs))
 
--- a formal begins behind what those before it take
+-- a formal begins after what those before it take
 pub start_at : (fs : List Formal) (i : ℕ) → i < length fs → get_or (starts_of 0 fs) i 0 ≡ sum_by formal_size (take i fs)
 start_at fs i h = omega (arith, start_from 0 fs i h)
 
@@ -210,7 +210,7 @@ plain_at [] i d p h = absurd (omega arith)
 plain_at (f ∷ fs) zero d p h = (and_parts (is_plain_formal f) (list_all is_plain_formal fs) p).0
 plain_at (f ∷ fs) (suc i) d p h = plain_at fs i d (and_parts (is_plain_formal f) (list_all is_plain_formal fs) p).1 (omega arith)
 
--- the bytes behind those of the first formals are those of the others
+-- the bytes after those of the first formals are those of the others
 pub list_after : (fs : List Formal) (i : ℕ) → drop (sum_by formal_size (take i fs)) (flat_map formal_bytes fs) ≡ flat_map formal_bytes (drop i fs)
 list_after fs i =
     let n : ℕ = sum_by formal_size (take i fs) in
@@ -218,7 +218,7 @@ list_after fs i =
     ∙ (ap (drop n) (flat_map-append formal_bytes (take i fs) (drop i fs))
     ∙ drop_at (flat_map formal_bytes (take i fs)) (flat_map formal_bytes (drop i fs)) n (length_list_bytes (take i fs)))
 
--- the first of these others, and those behind it
+-- the first of these others, and those after it
 pub first_after : (fs : List Formal) (i : ℕ) → i < length fs → flat_map formal_bytes (drop i fs) ≡ formal_bytes (formal_at fs i) ++ flat_map formal_bytes (drop (i + 1) fs)
 first_after fs i h = ap (flat_map formal_bytes) (drop_more fs i _ h)
 
@@ -242,7 +242,7 @@ pub marking_start : (fs : List Formal) (list before : List ℕ) → flat_map for
 unfolding halves
 marking_start fs list before h = record { left = sym h; offsets_are = sym (append-nil before) }
 
--- how many bytes are behind a place
+-- how many bytes are after a place
 rest_size : (fs : List Formal) (rest before formal_offsets : List ℕ) (i : ℕ) → IsMarking fs rest before formal_offsets i → sum_by formal_size (take i fs) + length rest ≡ sum_by formal_size fs
 rest_size fs rest before formal_offsets i m =
     omega (arith, ap length m.left, length_list_bytes (drop i fs), sum_by-take-drop formal_size fs i)
@@ -251,7 +251,7 @@ rest_size fs rest before formal_offsets i m =
 pub marking_at : (fs : List Formal) (list rest before formal_offsets : List ℕ) (i : ℕ) → flat_map formal_bytes fs ≡ list → IsMarking fs rest before formal_offsets i → sum_by formal_size (take i fs) + length rest ≡ length list
 marking_at fs list rest before formal_offsets i h m = rest_size fs rest before formal_offsets i m ∙ (sym (length_list_bytes fs) ∙ ap length h)
 
--- both halves of a number are put behind others
+-- both halves of a number are put after others
 pub two_halves : (old one both : List ℕ) (start : ℕ) → one ≡ old ++ (start % 65536) ∷ [] → both ≡ one ++ (start / 65536) ∷ [] → both ≡ old ++ halves (start ∷ [])
 unfolding halves
 two_halves old one both start e f =
@@ -363,7 +363,7 @@ count_offsets count list formal_offsets l m =
 pub passed_at : (count : ℕ) (list formal_offsets name : List ℕ) (i : ℕ) → AreStoredFormals count list formal_offsets → i < count → IsReached list name (flat_map formal_bytes (drop i (formals_read count list))) count i → bytes_eq (formal_read (flat_map formal_bytes (drop i (formals_read count list)))).formal.name name ≡ false → IsReached list name (flat_map formal_bytes (drop (i + 1) (formals_read count list))) count (i + 1)
 passed_at count list formal_offsets name i l h r other = grind (arith, read_at, count_read, reached_more)
 
--- a formal ends behind where it begins
+-- a formal ends after where it begins
 pub end_ordered : (count : ℕ) (list formal_offsets : List ℕ) (i : ℕ) → AreStoredFormals count list formal_offsets → has_offsets count (length list) ≡ true → i < count → offset_in formal_offsets i ≤ end_in count (length list) formal_offsets i
 end_ordered count list formal_offsets i l m h =
     omega (arith, end_at (formals_read count list) count list formal_offsets i (count_read count list) (listed_offsets count list formal_offsets l m) h)

@@ -1,4 +1,4 @@
--- Where the buckets of an index begin, in groups: as one list, and once a group's own starts and those of the groups behind it moved.
+-- Where the buckets of an index begin, in groups: as one list, and once a group's own starts and those of the groups after it moved.
 use Rattle.std.proofs.Common.{◌≡◌, ℕ, ◌+◌, ◌-◌, ◌*◌, ◌/◌, ◌^◌, ◌<◌, ◌≤◌, List, ◌++◌, All, length, map, take, drop, get_or, replicate, ap, sym, ◌∙◌, arith, inl, inr, subst, length-append, length-drop, length-take-le, get_or-drop, get_or-take}
 use Rattle.std.specs.List.{slice_range}
 use Rattle.std.proofs.lemmas.Bool.{cases_lt}
@@ -55,8 +55,8 @@ module _ (f : ℕ → ℕ) (from to : ℕ) (old changed : List ℕ) (o : from �
   changed_long : length changed ≡ to - from
   changed_long = omega (arith, ap (length {A = ℕ}) g, length-map (slice_range old from to) f, length-between old from to i)
 
-  behind : (p : ℕ) → from ≤ p → get_or (put_mid from (to - from) old changed) p 0 ≡ get_or (changed ++ back) (p - from) 0
-  behind p h = get_or-append_right (take from old) (changed ++ back) from p 0 front_long h
+  after : (p : ℕ) → from ≤ p → get_or (put_mid from (to - from) old changed) p 0 ≡ get_or (changed ++ back) (p - from) 0
+  after p h = get_or-append_right (take from old) (changed ++ back) from p 0 front_long h
 
   pub mapped : IsMapped f from to old (put_mid from (to - from) old changed)
   mapped = record {
@@ -64,20 +64,20 @@ module _ (f : ℕ → ℕ) (from to : ℕ) (old changed : List ℕ) (o : from �
     before = λ p h. get_or_append_left (take from old) (changed ++ back) 0 p (omega (arith, front_long)) ∙ get_or-take from old p 0 h;
     inside = λ p h l.
         let same : from + (p - from) ≡ p = omega arith in
-        behind p h
+        after p h
         ∙ (get_or_append_left changed back 0 (p - from) (omega (arith, changed_long))
         ∙ (ap (λ (xs : List ℕ). get_or xs (p - from) 0) g
         ∙ (get_or-map f (slice_range old from to) (p - from) 0 0 (omega (arith, length-between old from to i))
         ∙ ap f (get_or-between old from to (p - from) 0 (omega arith) ∙ ap (λ (q : ℕ). get_or old q 0) same))));
     following = λ p h.
         let same : from + (to - from + (p - from - (to - from))) ≡ p = omega arith in
-        behind p (omega arith)
+        after p (omega arith)
         ∙ (get_or-append_right changed back (to - from) (p - from) 0 changed_long (omega arith)
         ∙ (get_or-drop (to - from) (drop from old) (p - from - (to - from)) 0
         ∙ (get_or-drop from old (to - from + (p - from - (to - from))) 0 ∙ ap (λ (q : ℕ). get_or old q 0) same)));
   }
 
--- The starts behind a bucket, once those of its own group and of the groups behind it moved.
+-- The starts after a bucket, once those of its own group and of the groups after it moved.
 module _ (f : ℕ → ℕ) (bucket : ℕ) (groups within new_groups new_within : List ℕ) (h : bucket < 1024) (g : IsGrouped groups within)
     (w : IsMapped f (bucket + 1) (32 * (bucket / 32 + 1)) within new_within) (s : IsMapped f (bucket / 32 + 1) 33 groups new_groups) where
   regrouped : IsGrouped new_groups new_within
@@ -109,9 +109,9 @@ part_all P from to xs h a = λ i d l.
     let inside : from + i < to = omega (arith, length-between xs from to h) in
     subst P (sym (get_or-between xs from to i d inside ∙ get_or_default xs (from + i) d 0 (omega arith))) (a (from + i) (omega arith) inside)
 
--- each bucket behind one begins behind it
-abbrev pub IsBehind : ℕ → List ℕ → Type 0
-IsBehind bucket starts = (p : ℕ) → bucket < p → p ≤ 1024 → get_or starts bucket 0 < get_or starts p 0
+-- each bucket after one begins after it
+abbrev pub BucketsAreAfter : ℕ → List ℕ → Type 0
+BucketsAreAfter bucket starts = (p : ℕ) → bucket < p → p ≤ 1024 → get_or starts bucket 0 < get_or starts p 0
 
 module _ (bucket : ℕ) (groups within : List ℕ) (h : bucket < 1024) (g : IsGrouped groups within) where
   abbrev group : ℕ
@@ -128,20 +128,20 @@ module _ (bucket : ℕ) (groups within : List ℕ) (h : bucket < 1024) (g : IsGr
       let same : 32 * p / 32 ≡ p = omega arith in
       omega (arith, start_is groups within (32 * p) l, ap (λ (q : ℕ). get_or groups q 0) same, f (32 * p) 0 (omega (arith, starts_long groups within))))
 
-  some_inside : IsBehind bucket (starts_in groups within) → (p : ℕ) → bucket < p → p < 32 * (group + 1) → 0 < get_or within p 0
+  some_inside : BucketsAreAfter bucket (starts_in groups within) → (p : ℕ) → bucket < p → p < 32 * (group + 1) → 0 < get_or within p 0
   some_inside m p a b =
       let same : p / 32 ≡ group = omega arith in
       omega (arith, start_is groups within p (omega (arith, g.buckets)), start_is groups within bucket (omega (arith, g.buckets)), ap (λ (q : ℕ). get_or groups q 0) same, m p a (omega arith))
 
-  pub some_within : IsBehind bucket (starts_in groups within) → All (λ s. 0 < s) (slice_range within (bucket + 1) (32 * (group + 1)))
+  pub some_within : BucketsAreAfter bucket (starts_in groups within) → All (λ s. 0 < s) (slice_range within (bucket + 1) (32 * (group + 1)))
   some_within m = part_all (λ s. 0 < s) (bucket + 1) (32 * (group + 1)) within (omega (arith, g.buckets)) (λ p a b. some_inside m p (omega arith) b)
 
-  some_group : IsBehind bucket (starts_in groups within) → (p : ℕ) → group < p → p ≤ 32 → 0 < get_or groups p 0
+  some_group : BucketsAreAfter bucket (starts_in groups within) → (p : ℕ) → group < p → p ≤ 32 → 0 < get_or groups p 0
   some_group m p a b =
       let same : 32 * p / 32 ≡ p = omega arith in
       omega (arith, start_is groups within (32 * p) (omega (arith, g.buckets)), ap (λ (q : ℕ). get_or groups q 0) same, g.first p b, m (32 * p) (omega arith) (omega arith))
 
-  pub some_groups : IsBehind bucket (starts_in groups within) → All (λ s. 0 < s) (slice_range groups (group + 1) 33)
+  pub some_groups : BucketsAreAfter bucket (starts_in groups within) → All (λ s. 0 < s) (slice_range groups (group + 1) 33)
   some_groups m = part_all (λ s. 0 < s) (group + 1) 33 groups (omega (arith, g.groups)) (λ p a b. some_group m p (omega arith) (omega arith))
 
   module _ (moved moved_groups : List ℕ) where
@@ -178,7 +178,7 @@ module _ (bucket : ℕ) (groups within : List ℕ) (h : bucket < 1024) (g : IsGr
               ];
         }
 
-    pub sooner : IsBehind bucket (starts_in groups within) → moved ≡ map (λ s. s - 1) (slice_range within (bucket + 1) (32 * (group + 1))) → moved_groups ≡ map (λ s. s - 1) (slice_range groups (group + 1) 33) → IsSooner bucket (starts_in groups within) (starts_in new_groups new_within)
+    pub sooner : BucketsAreAfter bucket (starts_in groups within) → moved ≡ map (λ s. s - 1) (slice_range within (bucket + 1) (32 * (group + 1))) → moved_groups ≡ map (λ s. s - 1) (slice_range groups (group + 1) 33) → IsSooner bucket (starts_in groups within) (starts_in new_groups new_within)
     sooner some m n =
         let w = within_mapped (λ s. s - 1) m in
         let s = groups_mapped (λ s. s - 1) n in

@@ -193,7 +193,7 @@ pub key_new : (names : List (List ℕ)) (order name : List ℕ) (gap n : ℕ) �
 key_new names order name gap n g e =
     ap (name_at (names ++ name ∷ [])) (get_or-insert_at order gap n 0 g ∙ e) ∙ get_or-append_seam names name [] []
 
--- a place of an index with one place more: one of those before, the new one, or one of those behind
+-- a place of an index with one place more: one of those before, the new one, or one of those after
 data Spot (gap j : ℕ) : Type 0 where
   Before : j < gap → Spot gap j
   New : j ≡ gap → Spot gap j
@@ -299,7 +299,7 @@ gap_in_bucket names order bucket_starts name gap bucket v g e h = (
   ],
 )
 
--- the buckets behind that of a name in the index begin behind its place
+-- the buckets after that of a name in the index begin after its place
 pub sooner_more : (names : List (List ℕ)) (order bucket_starts name : List ℕ) (at bucket : ℕ) → IsDivided names order bucket_starts → IsPlace names order name at → IsInBucket bucket_starts bucket at → bucket ≡ bucket_of name → (p : ℕ) → bucket < p → p ≤ 1024 → get_or bucket_starts bucket 0 < get_or bucket_starts p 0
 sooner_more names order bucket_starts name at bucket v x i e p h l =
     let here : bucket_of (key_at names order at) ≡ bucket = ap bucket_of x.same ∙ sym e in
@@ -322,7 +322,7 @@ nothing_divided names bucket_starts e =
 pub few_starts : (names : List (List ℕ)) (order bucket_starts : List ℕ) → IsDivided names order bucket_starts → length order ≤ 65536 → All (λ s. s ≤ 65536) bucket_starts
 few_starts names order bucket_starts d h = λ i b l. omega (arith, d.long, d.inside i (omega (arith, d.long)), get_or_default bucket_starts i b 0 l)
 
--- where a place lies in the index with one place more: among those before, in its middle, or among those behind
+-- where a place lies in the index with one place more: among those before, in its middle, or among those after
 module _ (names : List (List ℕ)) (order bucket_starts new name : List ℕ) (gap n bucket : ℕ) (x : IsIndex names order) (g : IsGap names order name gap)
     (d : IsDivided names order bucket_starts) (e : n ≡ length names) (here : bucket_of name ≡ bucket) (l : IsLater bucket bucket_starts new) where
   abbrev more : List (List ℕ)
@@ -417,7 +417,7 @@ module _ (names : List (List ℕ)) (order bucket_starts new : List ℕ) (at take
   closer_long : length closer ≡ length (remove order at)
   closer_long = length-map (remove order at) (closed taken)
 
-  -- a bucket up to that of the name ends before it, a later one behind it
+  -- a bucket up to that of the name ends before it, a later one after it
   ends_before : (p : ℕ) → p ≤ 1024 → p ≤ bucket → get_or bucket_starts p 0 ≤ at
   ends_before p h a =
       elim (cases_lt at (get_or bucket_starts p 0)) [

@@ -60,7 +60,7 @@ appended_between named listed all here m arity count from to body p e f i j a n 
     appended m count (slice_range here from to) p (n ∙ count_of m arity a)
     (ap (λ (x : List ℕ). slice_range x from to) whole ∙ between_parts named formals body from to (sym i) (omega (arith, i, j, ap (length {A = ℕ}) e, length-append named formals)))
 
--- the offsets that were kept behind a list are those of its formals
+-- the offsets that were kept after a list are those of its formals
 pub appended_listed : (m : Macro) (count : ℕ) (last between order here : List ℕ) (from : ℕ) → IsAppended m count last → IsAppended m count between → here ≡ order ++ offsets_of (formals_read count last) → from ≡ length order → AreStoredFormals count between (take (length here - from) (drop from here))
 appended_listed m count last between order here from a b e i = grind (arith, common_steps, after_place)
 

@@ -42,7 +42,7 @@ rises (suc n) a b (u ∷ us) (v ∷ vs) p q h l =
     let small : u < 256 = h 0 in
     rises n (a * 256 + u) (b * 256 + v) us vs (omega arith) (omega arith) (λ k. h (suc k)) (omega arith)
 
--- bytes stand to one another as the numbers of their first n, and then as the bytes behind these
+-- bytes stand to one another as the numbers of their first n, and then as the bytes after these
 pub by_numbers : (n a : ℕ) (us vs : List ℕ) → n ≤ length us → n ≤ length vs → AreBytes us → AreBytes vs
     → name_order us vs ≡ ordering_then (nat_cmp (big_endian a (take n us)) (big_endian a (take n vs))) (name_order (drop n us) (drop n vs))
 by_numbers zero a us vs p q g h = ap (λ o. ordering_then o (name_order us vs)) (sym (level a a refl))
@@ -73,11 +73,11 @@ pub eight_are : (xs : List ℕ) → 8 ≤ length xs
 eight_are (a ∷ b ∷ c ∷ d ∷ e ∷ f ∷ g ∷ h ∷ xs) le = omega arith
 eight_are xs le = absurd (omega arith)
 
--- what is behind the first eight bytes, as a slice
+-- what is after the first eight bytes, as a slice
 pub following : (xs : List ℕ) → 8 ≤ length xs → take (length xs - 8) (drop 8 xs) ≡ drop 8 xs
 following xs le = take_all _ (drop 8 xs) (omega (arith, length-drop 8 xs))
 
--- bytes behind bytes
+-- bytes after bytes
 pub bytes_after : (xs : List ℕ) → 8 ≤ length xs → AreBytes xs → AreBytes (take (length xs - 8) (drop 8 xs))
 bytes_after xs le h = subst AreBytes (sym (following xs le)) (λ k. subst (λ b. b < 256) (sym (get_or-drop 8 xs k 0)) (h (8 + k)))
 
@@ -269,7 +269,7 @@ bounds_ordered names order bucket_starts p d h =
       | inr l ↦ l
     ]
 
--- a name that isn't in a bucket stands before it or behind it
+-- a name that isn't in a bucket stands before it or after it
 pub start_seeking : (names : List (List ℕ)) (order bucket_starts name : List ℕ) (bucket first low high : ℕ) → IsDivided names order bucket_starts → bucket ≡ bucket_of name → bucket < 1024 → low ≡ get_or bucket_starts bucket 0 → high ≡ get_or bucket_starts (bucket + 1) 0 → length order ≤ 65536 → IsSeeking names order name low high first first
 start_seeking names order bucket_starts name bucket first low high d p small e f h =
     let k : 17 ≡ first + 17 - first = omega arith in
@@ -345,14 +345,14 @@ place_of_own ms name i d h e =
 pub place_compared : (ms : List Macro) (own name : List ℕ) (i : ℕ) → IsDistinct bytes_eq (map (λ m. m.name) ms) → i < length ms → own ≡ (macro_at ms i).name → bytes_eq own name ≡ true → Some i ≡ place_named ms name
 place_compared ms own name i d h e t = sym (place_of_own ms name i d h (sym e ∙ (bytes_eq-Decides own name).0 t))
 
--- Lists of which what is behind a place comes a place to the front.
+-- Lists of which what is after a place comes a place to the front.
 
--- the element that comes to a place is the one so many places behind it
+-- the element that comes to a place is the one so many places after it
 pub drawn : {A : Type 0} (f : A → A) (old now : List A) (by k : ℕ) (d e : A) → k + by < length old → now ≡ map f (take k (drop by old)) ++ drop k old → get_or (set now k (get_or now (k + by) d)) k e ≡ get_or (drop by old) k d
 drawn f old now by k d e h p =
     grind (arith, common_steps, length-drop, length-map, length-take-le, drop_more, set_at, get_or_at, get_or-append-add, get_or-drop)
 
--- one more place: the element behind it comes there, and is changed
+-- one more place: the element after it comes there, and is changed
 pub drawn_more : {A : Type 0} (f : A → A) (old now : List A) (by k : ℕ) (z d e : A) → k + by < length old → now ≡ map f (take k (drop by old)) ++ drop k old → z ≡ f (get_or (set now k (get_or now (k + by) d)) k e) → set (set now k (get_or now (k + by) d)) k z ≡ map f (take (k + 1) (drop by old)) ++ drop (k + 1) old
 drawn_more f old now by k z d e h p q =
     let rest : List _ = drop by old in
@@ -383,7 +383,7 @@ raised_more f old now j k n z d e s h g p q =
     p ∙ (ap (λ (l : List _). l ++ following) (take_more old k d (omega arith)) ∙ append_assoc (take k old) (get_or old k d ∷ []) following) in
     grind (arith, length-take-le, take_more, append_assoc, set_at, raised, drop_more)
 
--- what is behind a place, once the element there was taken out
+-- what is after a place, once the element there was taken out
 pub after_removed : {A : Type 0} (xs : List A) (place : ℕ) → place < length xs → drop place (remove xs place) ≡ drop 1 (drop place xs)
 after_removed xs place h =
     drop_at (take place xs) (drop (suc place) xs) place (length-take-le place xs (omega arith))
@@ -393,14 +393,14 @@ after_removed xs place h =
 pub before_removed : {A : Type 0} (xs : List A) (place : ℕ) → place < length xs → take place (remove xs place) ≡ take place xs
 before_removed xs place h = take_at (take place xs) (drop (suc place) xs) place (length-take-le place xs (omega arith))
 
--- what is behind a place, as a bucket of a slice
+-- what is after a place, as a bucket of a slice
 pub tail_of : {A : Type 0} (xs am : List A) (place : ℕ) → am ≡ xs → take (length am - place) (drop place am) ≡ drop place xs
 tail_of xs am place e = take_all (length am - place) (drop place am) (omega (arith, length-drop place am)) ∙ ap (drop place) e
 
 regrouped : {A : Type 0} (front moved last post junk : List A) → (front ++ ((moved ++ last) ++ post)) ++ junk ≡ (front ++ moved) ++ (last ++ (post ++ junk))
 regrouped front moved last post junk = simp append_assoc
 
--- the list without its last place, once what is behind a place came to the front
+-- the list without its last place, once what is after a place came to the front
 pub closed_list : {A : Type 0} (f : A → A) (xs am given left post junk : List A) (place len n : ℕ) → place < length xs → len ≡ length xs → n ≡ len → am ≡ xs → given ≡ map f (drop 1 (take (length am - place) (drop place am))) ++ drop (length (take (length am - place) (drop place am)) - 1) (take (length am - place) (drop place am)) → left ≡ take (n - 1) (take len ((take place am ++ (given ++ post)) ++ junk)) → left ≡ take place (remove xs place) ++ map f (drop place (remove xs place))
 closed_list f xs am given left post junk place len n h e m a g l =
     grind (arith, common_steps, tail_of, length-take-le, length-append, length-map, length-drop, take-take, regrouped, before_removed, after_removed)
@@ -408,16 +408,16 @@ closed_list f xs am given left post junk place len n h e m a g l =
 regrouped_front : {A : Type 0} (front first moved back : List A) → front ++ ((first ++ moved) ++ back) ≡ (front ++ first) ++ (moved ++ back)
 regrouped_front front first moved back = simp append_assoc
 
--- what is before a place behind so many others
+-- what is before a place after so many others
 pub raised_low : {A : Type 0} (xs am : List A) (front place k : ℕ) → k ≡ place + 1 → front + place < length xs → am ≡ xs → take (length (take k (drop front am)) - 1) (take k (drop front am)) ≡ take place (remove (drop front xs) place)
 raised_low xs am front place k s h a = grind (arith, length-drop, length-take-le, take-take, before_removed)
 
--- the list behind so many places, and one more, once what is before a place behind them came a place to the back
+-- the list after so many places, and one more, once what is before a place after them came a place to the back
 pub raised_list : {A : Type 0} (f : A → A) (xs am given junk left : List A) (front place k len : ℕ) → k ≡ place + 1 → front + place < length xs → len ≡ length xs → am ≡ xs → given ≡ take 1 (take k (drop front am)) ++ map f (take (length (take k (drop front am)) - 1) (take k (drop front am))) → left ≡ take len ((take front am ++ (given ++ drop k (drop front am))) ++ junk) → drop (front + 1) left ≡ map f (take place (remove (drop front xs) place)) ++ drop place (remove (drop front xs) place)
 raised_list f xs am given junk left front place k len s h e a g l =
     grind (arith, common_steps, length-drop, length-take-le, take-take, regrouped_front, length-append, length-map, before_removed, after_removed, drop-drop)
 
--- what is behind a place that is counted from the front, once the element there was taken out
+-- what is after a place that is counted from the front, once the element there was taken out
 pub live_after : {A : Type 0} (items : List A) (front place : ℕ) → front + place < length items → drop (front + place) (remove items (front + place)) ≡ drop place (remove (drop front items) place)
 live_after items front place h = grind (arith, after_removed, drop-drop, length-drop)
 
@@ -425,6 +425,6 @@ live_after items front place h = grind (arith, after_removed, drop-drop, length-
 pub live_taken : {A : Type 0} (f : A → A) (items left : List A) (front place : ℕ) → front + place < length items → left ≡ take (front + place) (remove items (front + place)) ++ map f (drop (front + place) (remove items (front + place))) → drop front left ≡ take place (remove (drop front items) place) ++ map f (drop place (remove (drop front items) place))
 live_taken f items left front place h e = grind (arith, length-take-le, before_removed, drop-append-le, drop-take, length-drop, live_after)
 
--- the list of what is behind so many places, once all of that came to the front
+-- the list of what is after so many places, once all of that came to the front
 pub settled_list : {A : Type 0} (f : A → A) (xs am given junk left : List A) (front len n : ℕ) → front ≤ length xs → len ≡ length xs → n ≡ len → am ≡ xs → given ≡ map f (drop front am) ++ drop (length am - front) am → left ≡ take (n - front) (take len (given ++ junk)) → left ≡ map f (drop front xs)
 settled_list f xs am given junk left front len n h e m a g l = grind (arith, common_steps, length-map, length-drop, take-take, append_assoc)

@@ -1,4 +1,4 @@
--- Stops behind plain argument bytes: those from a place on at which no token goes on, and those of the front of a text.
+-- Stops after plain argument bytes: those from a place on at which no token goes on, and those of the front of a text.
 use Rattle.std.proofs.Common.{◌≡◌, ℕ, zero, suc, ◌+◌, ◌-◌, ◌<◌, ◌≤◌, Bool, true, false, List, [], ◌∷◌, ⊎_elim, length, take, drop, refl, ap, sym, ◌∙◌, arith, inl, inr, eqb, not, ◌&&◌, ◌||◌, get_or, subst, Option, Some, None, ◌⊎◌, IfSome, slice_range, leb, ltb, if◌then◌else◌, eqb-true, leb-true, ltb-true, get_or-drop, length-drop, length-take, drop-drop, take_all}
 use Rattle.std.specs.List.{prefix_len}
 use Rattle.std.proofs.lemmas.Bool.{cases_Bool, false≢true, cond_both, cond-true, cond-false, or_cases, and_parts, cases_lt, not-true}
@@ -26,7 +26,7 @@ use Rattle.rdlpp_table.proofs.FirstPoints.{IsFrom, back_when, begins, begins_end
 
 -- The first token of a text that begins with a plain argument byte.
 
--- such a token leaves plain text plain; and one that isn't white space goes no further than the word behind its first byte
+-- such a token leaves plain text plain; and one that isn't white space goes no further than the word after its first byte
 record IsPlainArgumentToken (b : ℕ) (bs : List ℕ) (t : Token) : Type 0 where
   next : t.next_mode ≡ Plain
   short : is_blank b ≡ false → t.len ≤ 1 + prefix_len is_word bs
@@ -78,7 +78,7 @@ kind_begins formals at len k mode bytes = omega arith
 
 -- One token.
 
--- what stands behind the first token of a text, if that is none of the expansion points
+-- what stands after the first token of a text, if that is none of the expansion points
 abbrev following : List Formal → ℕ → List ℕ → ExpansionPoint
 following formals at u = let t = token_of Plain u in next_expansion_point formals (at + t.len) (tokens_from Plain 0 (drop t.len u)) (drop t.len u)
 
@@ -89,7 +89,7 @@ text_step : (formals : List Formal) (at : ℕ) (u : List ℕ) → 0 < length u �
     → next_expansion_point formals at (tokens_from Plain 0 u) u ≡ following formals at u
 text_step formals at u some next none = grind (arith, one_token, token_of-part, or_none)
 
--- the first token of a text isn't an expansion point, where the first expansion point is none, or begins behind its front
+-- the first token of a text isn't an expansion point, where the first expansion point is none, or begins after its front
 passed_here : (formals : List Formal) (at : ℕ) (u : List ℕ) (s : ExpansionPoint) → 0 < length u → s ≡ next_expansion_point formals at (tokens_from Plain 0 u) u → (is_none s ≡ false → at < begins s) → is_none (here formals at u) ≡ true
 passed_here formals at u s some e far = grind (arith, one_token, token_of-part, or_some, begins, kind_begins, cases_Bool)
 
@@ -195,7 +195,7 @@ point_after (suc fuel) formals at (suc m) (b ∷ bs) s room run ends e far =
     ∙ point_after fuel formals (at + t.len) (suc m - t.len) (drop t.len u) s (omega (arith, length-drop t.len u)) left still (e ∙ text_step formals at u some plain_argument.next none) (λ h. omega (arith, far h)))
     (cases_Bool (is_inert b))
 
--- an expansion point behind plain argument bytes alone is the first one of each front of the text that has it
+-- an expansion point after plain argument bytes alone is the first one of each front of the text that has it
 point_inside : (fuel : ℕ) (formals : List Formal) (at m : ℕ) (u : List ℕ) (s : ExpansionPoint) → length u ≤ fuel → s ≡ next_expansion_point formals at (tokens_from Plain 0 u) u → is_none s ≡ false → begins s ≤ at + prefix_len is_plain_argument u → begins s ≤ point_end s → point_end s ≤ at + m
     → next_expansion_point formals at (tokens_from Plain 0 (take m u)) (take m u) ≡ s
 unfolding next_expansion_point tokens_from is_none IsFrom point_of
@@ -303,7 +303,7 @@ point_further formals text start from s k is e low near cut =
     ∙ (ap (λ (l : List ℕ). next_expansion_point formals (start + n) (tokens_from Plain 0 l) l) (drop-drop n start text)
     ∙ ap (λ (m : ℕ). next_expansion_point formals m (tokens_from Plain 0 (drop m text)) (drop m text)) there)
 
--- plain argument bytes behind a place further on
+-- plain argument bytes after a place further on
 run_further : (text : List ℕ) (start from m : ℕ) → start ≤ from → from - start + m ≤ prefix_len is_plain_argument (drop start text) → m ≤ prefix_len is_plain_argument (drop from text)
 run_further text start from m low h =
     let there : start + (from - start) ≡ from = omega (arith, low) in

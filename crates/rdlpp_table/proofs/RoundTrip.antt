@@ -27,7 +27,7 @@ use Rattle.rdlpp_define.specs.declared.fault.DefineKind.TheVariants as kind
 
 -- The macros of a table are read back from its lists as they are.
 
--- a name is read up to what stands behind it
+-- a name is read up to what stands after it
 name_read : (name rest : List ℕ) → list_all is_name_byte name ≡ true → is_name_byte (get_or rest 0 0) ≡ false → prefix_len is_name_byte (name ++ rest) ≡ length name
 name_read [] [] h e = refl
 name_read [] (b ∷ bs) h e = cond-false _ _ _ e
@@ -72,7 +72,7 @@ same_formals (Some fs) list e h = ap Some (ap (formals_read (length fs)) e ∙ r
 same_macro : (m : Macro) (name list body : List ℕ) → name ≡ m.name → list ≡ flat_map formal_bytes (unwrap_or m.formals []) → body ≡ m.body → list_all is_plain_formal (unwrap_or m.formals []) ≡ true → (let y : Macro = record { name = name; formals = option_map (λ (n : ℕ). formals_read n list) (option_map length m.formals); body = body } in y) ≡ m
 same_macro m name list body n l b h = grind (arith, same_formals)
 
--- the parts of a macro in bytes in which it lies behind others
+-- the parts of a macro in bytes in which it lies after others
 -- the bytes of a macro's formals between others
 pub list_back : (before after : List ℕ) (k : ℕ) (m : Macro) → list_of (before ++ (macro_bytes m ++ after)) (entry_of (length before) k m) ≡ flat_map formal_bytes (unwrap_or m.formals [])
 unfolding list_of entry_of body_start list_start list_size macro_bytes
@@ -215,7 +215,7 @@ stored_length {from = from} bytes entries ms s = omega (arith, s.inside, length-
 pub stored_count : {from ahead : ℕ} (bytes : List ℕ) (entries : List Entry) (ms : List Macro) → IsStored from ahead bytes entries ms → length entries ≡ length ms
 stored_count {from = from} {ahead = ahead} bytes entries ms s = ap length s.entries_are ∙ length_entries_of from ahead ms
 
--- A macro put behind the others, and what there is beside one of its name.
+-- A macro put after the others, and what there is beside one of its name.
 
 one_entry : (n k : ℕ) (m : Macro) → entries_of n k (m ∷ []) ≡ entry_of n k m ∷ []
 unfolding entries_of
@@ -233,7 +233,7 @@ pub put_stored : {from ahead : ℕ} (bytes : List ℕ) (entries : List Entry) (m
 put_stored {from = from} {ahead = ahead} bytes entries ms m start formal_offsets bytes' entries' s p n k b e =
     grind (arith, stored_length, length-append, drop-append-le, one_bytes, table_bytes-append, one_entry, entries_of-append, list_all-append, and_from)
 
--- the offsets of a macro that was put behind the others
+-- the offsets of a macro that was put after the others
 pub put_offsets : (formal_offsets more : List ℕ) (ms : List Macro) (m : Macro) → formal_offsets ≡ table_offsets ms → more ≡ macro_offsets m → formal_offsets ++ more ≡ table_offsets (ms ++ m ∷ [])
 put_offsets formal_offsets more ms m d e = grind (arith, one_offsets, table_offsets-append)
 

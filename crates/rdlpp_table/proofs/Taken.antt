@@ -204,7 +204,7 @@ removed_between front x back n e =
 pub split_at : (ms : List Macro) (place : ℕ) → place < length ms → ms ≡ take place ms ++ macro_at ms place ∷ drop (place + 1) ms
 split_at ms place h = sym (take-append-drop place ms) ∙ ap (λ (l : List Macro). take place ms ++ l) (drop_more ms place no_macro h)
 
--- the bytes of macros behind what is given up
+-- the bytes of macros after what is given up
 pub whole_bytes : {from ahead : ℕ} (bytes : List ℕ) (entries : List Entry) (ms : List Macro) → IsStored from ahead bytes entries ms → bytes ≡ take from bytes ++ table_bytes ms
 whole_bytes {from = from} bytes entries ms s = sym (take-append-drop from bytes) ∙ ap (λ (l : List ℕ). take from bytes ++ l) s.bytes_are
 
@@ -266,7 +266,7 @@ taken from ahead entries rest entry ms place size formal_offsets e h q r z f =
 removed_parts : (ms : List Macro) (place : ℕ) → remove ms place ≡ take place ms ++ drop (place + 1) ms
 removed_parts ms place = ap (λ (k : ℕ). take place ms ++ drop k ms) (sym (add-one place))
 
--- what is left of the lists once those behind a macro came to the front
+-- what is left of the lists once those after a macro came to the front
 pub taken_stored : {from ahead : ℕ} (bytes : List ℕ) (entries rest : List Entry) (entry : Entry) (ms : List Macro) (place size formal_offsets : ℕ) (bytes' : List ℕ) (entries' : List Entry) → IsStored from ahead bytes entries ms → Taken from ahead entries rest entry ms place size formal_offsets → place < length ms → bytes' ≡ remove_range bytes entry.start (entry.start + size) → entries' ≡ take place rest ++ map (moved_down size formal_offsets) (drop place rest) → IsStored from ahead bytes' entries' (remove ms place)
 taken_stored {from = from} {ahead = ahead} bytes entries rest entry ms place size formal_offsets bytes' entries' s t h b e =
     let xs : List Macro = take place ms in
@@ -352,7 +352,7 @@ settled_stored {from = from} {ahead = ahead} bytes entries ms bytes' entries' s 
       plain = s.plain;
     }
 
--- each entry lies behind what is given up
+-- each entry lies after what is given up
 pub stored_after : {from ahead : ℕ} (bytes : List ℕ) (entries : List Entry) (ms : List Macro) → IsStored from ahead bytes entries ms → AreAfter from ahead entries
 stored_after {from = from} {ahead = ahead} bytes entries ms s = grind (arith, starts_after)
 
@@ -370,7 +370,7 @@ pub end_within : {from ahead : ℕ} (bytes : List ℕ) (entries : List Entry) (m
 unfolding entry_end body_start list_start
 end_within bytes entries ms place entry s h q = grind (arith, stored_within)
 
--- the macro at a place behind what is given up
+-- the macro at a place after what is given up
 pub taken_live : {from ahead : ℕ} (bytes : List ℕ) (items : List Entry) (front place : ℕ) (entry : Entry) (size formal_offsets : ℕ) → IsStored from ahead bytes (drop front items) (macros_in bytes (drop front items)) → place < length (drop front items) → entry ≡ get_or items (front + place) entry → size ≡ entry.name_len + entry.list_len + entry.body_len → formal_offsets ≡ offsets_len entry → Taken from ahead (drop front items) (remove (drop front items) place) entry (macros_in bytes (drop front items)) place size formal_offsets
 taken_live {from = from} {ahead = ahead} bytes items front place entry size formal_offsets s h q z f =
     taken from ahead (drop front items) _ entry _ place size formal_offsets s.entries_are (omega (arith, h, length_macros_in bytes (drop front items))) (q ∙ sym (get_or-drop front items place entry)) refl z f

@@ -3,7 +3,7 @@
 use Rattle.std.specs.Prelude.{◌≡◌, ℕ, ◌+◌, ◌*◌, ◌/◌, ◌≤◌, List, length, map, slice_index}
 use Rattle.std.specs.List.{range_with_len}
 
--- where each bucket begins, and behind them where the last one ends: where its group begins, and so much further on
+-- where each bucket begins, and after them where the last one ends: where its group begins, and so much further on
 unfoldable pub starts_in : List ℕ → List ℕ → List ℕ
 starts_in group_starts within = map (λ b. slice_index group_starts (b / 32) + slice_index within b) (range_with_len 0 (length within))
 

@@ -21,7 +21,7 @@ moved_up size formal_offsets e = record { start = e.start + size; name_len = e.n
 abbrev pub AreLow : ℕ → ℕ → List Entry → Type 0
 AreLow n k entries = All (λ e. (e.start + n < 2 ^ 32) × (e.formal_offsets + k < 2 ^ 32)) entries
 
--- each entry's bytes lie behind so many, and its offsets behind as many as another number says
+-- each entry's bytes lie after so many, and its offsets after as many as another number says
 abbrev pub AreAfter : ℕ → ℕ → List Entry → Type 0
 AreAfter n k entries = All (λ e. (n ≤ e.start) × (k ≤ e.formal_offsets)) entries
 

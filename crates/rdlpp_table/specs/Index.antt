@@ -60,20 +60,20 @@ pub record IsIndex (names : List (List ℕ)) (order : List ℕ) : Type 0 where
   pub whole : (i : ℕ) → i < length names → (k : ℕ) × ((k < length order) × (slice_index order k ≡ i))
   pub sorted : (j k : ℕ) → j < k → k < length order → index_order (key_at names order j) (key_at names order k) ≡ Less
 
--- where each of the 1,024 buckets of the index begins, and behind them where the index ends
+-- where each of the 1,024 buckets of the index begins, and after them where the index ends
 pub record IsDivided (names : List (List ℕ)) (order bucket_starts : List ℕ) : Type 0 where
   pub long : length bucket_starts ≡ 1025
   pub inside : (p : ℕ) → p ≤ 1024 → slice_index bucket_starts p ≤ length order
   pub below : (p k : ℕ) → p ≤ 1024 → k < slice_index bucket_starts p → bucket_of (key_at names order k) < p
   pub above : (p k : ℕ) → p ≤ 1024 → slice_index bucket_starts p ≤ k → k < length order → p ≤ bucket_of (key_at names order k)
 
--- each bucket behind one begins a place later
+-- each bucket after one begins a place later
 pub record IsLater (bucket : ℕ) (bucket_starts new : List ℕ) : Type 0 where
   pub long : length new ≡ length bucket_starts
   pub before : (p : ℕ) → p ≤ bucket → slice_index new p ≡ slice_index bucket_starts p
   pub following : (p : ℕ) → bucket < p → p < length bucket_starts → slice_index new p ≡ slice_index bucket_starts p + 1
 
--- each bucket behind one begins a place sooner
+-- each bucket after one begins a place sooner
 pub record IsSooner (bucket : ℕ) (bucket_starts new : List ℕ) : Type 0 where
   pub long : length new ≡ length bucket_starts
   pub before : (p : ℕ) → p ≤ bucket → slice_index new p ≡ slice_index bucket_starts p

@@ -56,7 +56,7 @@ pub record IsSpaced (slack_before bucket_starts : List ℕ) : Type 0 where
   pub in_order : (p q : ℕ) → p ≤ q → q ≤ 1024 → slice_index bucket_starts p ≤ slice_index bucket_starts q
   pub rising : (g h : ℕ) → g ≤ h → h ≤ 32 → slice_index slack_before g ≤ slice_index slack_before h
 
--- the places of the groups from one on lie behind slack, where none lay before them, and what stands before those and behind all stands
+-- the places of the groups from one on lie after slack, where none lay before them, and what stands before those and after all stands
 -- there still
 pub record AreMoved (slack_before bucket_starts : List ℕ) (group : ℕ) (items moved : List ℕ) : Type 0 where
   pub before : (p : ℕ) → p < slice_index bucket_starts (32 * group) → slice_index moved p ≡ slice_index items p

@@ -63,12 +63,12 @@ plain_argument_kept text = prefix_len is_plain_argument (take 255 text)
 unfoldable pub kept_point : ExpansionPoint → ℕ → List ℕ → PackedPoint
 kept_point s from text = kept_of s (plain_argument_kept (before_point s from text))
 
--- the first expansion point of a text from a place on, as it is kept: unknown, where the place is too far behind
+-- the first expansion point of a text from a place on, as it is kept: unknown, where the place is too far on
 unfoldable pub kept_from : List Formal → List ℕ → ℕ → PackedPoint
 kept_from formals text from =
     if nat_lt from 65535 then kept_point (point_of formals from (drop from text)) from (drop from text) else endless 1 0
 
--- so many first expansion points of a text from a place on, each of them the first one behind the one before
+-- so many first expansion points of a text from a place on, each of them the first one after the one before
 unfoldable pub points_after : ℕ → List Formal → List ℕ → ℕ → List PackedPoint
 points_after zero formals text from = []
 points_after (suc n) formals text from = kept_from formals text from ∷ points_after n formals text (kept_from formals text from).end
@@ -77,14 +77,14 @@ points_after (suc n) formals text from = kept_from formals text from ∷ points_
 unfoldable pub cached_points : List Formal → List ℕ → PointCache
 cached_points formals text = record { all = points_after 10 formals text 0 }
 
--- whether it is known that no token goes on at a place of a text that is read from another one on, behind plain argument bytes: it is that place,
+-- whether it is known that no token goes on at a place of a text that is read from another one on, after plain argument bytes: it is that place,
 -- or an inert byte stands before it
 unfoldable pub is_cut : List ℕ → ℕ → ℕ → Bool
 is_cut text start from = from == start || is_inert (slice_index text (from - 1))
 
--- the first expansion point of a range of a text, behind whose front no token goes on, where the one that is kept as the first one from a place on
--- tells it, behind which so many bytes are plain argument: that one, where it lies in the range, or the range goes up to the end; none, where it
--- begins behind the range, and no word goes on there
+-- the first expansion point of a range of a text, after whose front no token goes on, where the one that is kept as the first one from a place on
+-- tells it, after which so many bytes are plain argument: that one, where it lies in the range, or the range goes up to the end; none, where it
+-- begins after the range, and no word goes on there
 unfoldable pub point_within : List ℕ → ℕ → PackedPoint → ℕ → Option ExpansionPoint
 point_within text reach k to =
     if to == length text || (nat_lt 0 k.len && (nat_le k.end to && nat_le (k.end - k.len) reach)) then point_kept k

@@ -27,16 +27,16 @@ unfoldable pub entries_of : ℕ → ℕ → List Macro → List Entry
 entries_of start formal_offsets [] = []
 entries_of start formal_offsets (m ∷ ms) = entry_of start formal_offsets m ∷ entries_of (start + macro_size m) (formal_offsets + length (macro_offsets m)) ms
 
--- what stands behind a default text with which bytes of a table begin, from its `,` on
+-- what stands after a default text with which bytes of a table begin, from its `,` on
 unfoldable pub after_stored : List ℕ → List ℕ
 after_stored bytes = text_after (cleared (Some 0) bytes)
 
--- a formal that was read from a table's bytes, and what stands behind its `,`
+-- a formal that was read from a table's bytes, and what stands after its `,`
 pub record StoredFormal : Type 0 where
   pub formal : Formal
   pub following : List ℕ
 
--- a formal of a name, by what stands behind the name: a default text behind `=`, or a `,` at once
+-- a formal of a name, by what stands after the name: a default text after `=`, or a `,` at once
 unfoldable pub formal_after : List ℕ → List ℕ → StoredFormal
 formal_after name bytes =
     let text = drop 1 bytes in
@@ -88,7 +88,7 @@ macros_in bytes entries = map (macro_in bytes) entries
 abbrev pub live : ℕ → List Entry → List Entry
 live front entries = drop front entries
 
--- the bytes and the entries of macros behind so many bytes that are given up, where the entries count so many offsets that aren't there
+-- the bytes and the entries of macros after so many bytes that are given up, where the entries count so many offsets that aren't there
 pub record IsStored (from formal_offsets : ℕ) (bytes : List ℕ) (entries : List Entry) (macros : List Macro) : Type 0 where
   pub inside : from ≤ length bytes
   pub few : formal_offsets ≤ from
@@ -102,6 +102,6 @@ pub record AreStoredFormals (count : ℕ) (list formal_offsets : List ℕ) : Typ
   pub plain : list_all is_plain_formal (formals_read count list) ≡ true
   pub marked : formal_offsets ≡ offsets_of (formals_read count list)
 
--- the first expansion points of the body behind a place of a table's bytes, by so many formals between two places
+-- the first expansion points of the body after a place of a table's bytes, by so many formals between two places
 abbrev pub points_told : List ℕ → ℕ → ℕ → ℕ → PointCache
 points_told bytes list body count = cached_points (formals_read count (slice_range bytes list body)) (drop body bytes)

@@ -63,13 +63,13 @@ pub(crate) fn move_down(starts: &mut [u32])
 // How many buckets a group has.
 pub(crate) const GROUP: usize = 32;
 
-// Where each of the 1,024 buckets of an index begins, and behind them where the last one ends. Buckets stand in groups of 32, so
+// Where each of the 1,024 buckets of an index begins, and after them where the last one ends. Buckets stand in groups of 32, so
 // that a name that comes or goes moves the starts of 31 buckets and of 32 groups at most.
 #[derive(Drop)]
 pub(crate) struct BucketStarts {
     // Where each group begins, and where the last one ends.
     group_starts: [u32; 33],
-    // How far behind the start of its group each bucket begins, and where the last one ends behind itself.
+    // How far after the start of its group each bucket begins, and where the last one ends after itself.
     within: [u32; 1_025],
 }
 
@@ -123,7 +123,7 @@ impl BucketStarts {
         self.group_starts[group] as usize
     }
 
-    // The buckets behind one begin a place later, once a name was put into it.
+    // The buckets after one begin a place later, once a name was put into it.
     pub(crate) fn begin_later(&mut self, bucket: usize)
         requires bucket { bucket < 1024 }
         requires few { All (λ s. s ≤ 65536) self.old }
@@ -134,7 +134,7 @@ impl BucketStarts {
         move_up(&mut self.group_starts[group + 1..]);
     }
 
-    // The buckets behind one begin a place sooner, once a name was taken out of it.
+    // The buckets after one begin a place sooner, once a name was taken out of it.
     pub(crate) fn begin_sooner(&mut self, bucket: usize)
         requires bucket { bucket < 1024 }
         requires some { (p : ℕ) → bucket < p → p ≤ 1024 → slice_index self.old bucket < slice_index self.old p }

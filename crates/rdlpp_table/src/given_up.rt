@@ -5,7 +5,7 @@ ghost use Rattle.rdlpp_table.specs.Store.{live};
 use crate::entry::Entry;
 
 // How many bytes and how many entries are given up, and how many offsets the entries count that aren't there any more. An entry
-// counts its bytes and its offsets from the front of all that was there, so that those behind stay as they are when a front is
+// counts its bytes and its offsets from the front of all that was there, so that those after stay as they are when a front is
 // given up. What the index gives up at the front of the offsets is a count of its own.
 #[derive(Clone, Copy, Drop)]
 pub(crate) struct GivenUp {

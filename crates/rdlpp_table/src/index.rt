@@ -1,6 +1,6 @@
 // The index of a table: the places of its entries, sorted by the buckets in which their names stand, and then by name. A table has
-// at most 65,536 macros, so that two bytes are enough for a place. In one list lie the places, with slack behind those of each group
-// of buckets, and behind all of them the offsets of the macros. A definition moves those places of its own group that stand behind
+// at most 65,536 macros, so that two bytes are enough for a place. In one list lie the places, with slack after those of each group
+// of buckets, and after all of them the offsets of the macros. A definition moves those places of its own group that stand after
 // its own, and a removal does too, so that its group has more slack then; where a group has none left, or all have much, each gets slack
 // anew. Offsets that go near the front are given up there.
 ghost use Rattle.std.specs.Prelude.{◌≡◌, ℕ, ◌+◌, ◌<◌, ◌≤◌, ◌^◌, ◌*◌, ◌/◌, ◌-◌, ◌++◌, All, IfOk, drop, length, map, remove, set, slice_index, take, true, vec_capacity, vec_len};
@@ -30,7 +30,7 @@ const GROUPS: usize = 32;
 // The index of a table.
 #[derive(Drop)]
 pub(crate) struct Index {
-    // The places in their order, with slack behind those of each group; and where the formals of each macro begin among their bytes,
+    // The places in their order, with slack after those of each group; and where the formals of each macro begin among their bytes,
     // where these are long: two numbers for each formal.
     order: Vec<u16>,
     // How much slack lies before the places of each group, and before the offsets.
@@ -165,7 +165,7 @@ fn close_list(order: &mut Vec<u16>, end: usize, taken: u16)
     close_up(&mut order[0..end], taken);
 }
 
-// Takes a place out of a list, and answers it: what stands behind it, before an end, moves one to the front.
+// Takes a place out of a list, and answers it: what stands after it, before an end, moves one to the front.
 fn take_place(order: &mut Vec<u16>, at: usize, end: usize) -> u16
     requires at { at < end }
     requires end { end ≤ vec_len order.old }
@@ -247,7 +247,7 @@ fn gather(order: &mut Vec<u16>, starts: &BucketStarts, before: &[u32; 33])
     }
 }
 
-// Moves what begins so far behind a place of a list, so that it begins as far behind it as another number says.
+// Moves what begins so far after a place of a list, so that it begins as far after it as another number says.
 fn move_rest(order: &mut Vec<u16>, at: usize, from: usize, to: usize)
     requires inside { at + from ≤ vec_len order.old }
     requires room { vec_len order.old + to ≤ vec_capacity order.old + from }
@@ -331,7 +331,7 @@ fn make_slack(order: &mut Vec<u16>, starts: &BucketStarts, before: &mut [u32; 33
 
 // Sees to it that there is room for two offsets of each of so many formals, where the offsets begin at a place of a list and there is
 // room for so many. Where there is none, or more are given up than aren't, those that aren't move to the front, and what was given up
-// there becomes room behind.
+// there becomes room after.
 fn make_offset_room(
     order: &mut Vec<u16>,
     start: usize,
@@ -461,7 +461,7 @@ impl Index {
         place as usize
     }
 
-    // Puts the offsets of a macro behind the others: of so many formals, which lie in bytes, where they are long.
+    // Puts the offsets of a macro after the others: of so many formals, which lie in bytes, where they are long.
     pub(crate) fn push_offsets(&mut self, list: &[u8], count: usize)
         requires whole { flat_map formal_bytes (formals_read count list.now) ≡ list.now }
         requires plain { list_all is_plain_formal (formals_read count list.now) ≡ true }
@@ -475,8 +475,8 @@ impl Index {
         push_offsets(&mut self.order, list, count);
     }
 
-    // Takes offsets out of the middle. Where those before them are less than a third of those behind, they move to the back, and their
-    // old room at the front is given up; else those behind move to the front. Most macros have none, and then nothing moves.
+    // Takes offsets out of the middle. Where those before them are less than a third of those after, they move to the back, and their
+    // old room at the front is given up; else those after move to the front. Most macros have none, and then nothing moves.
     pub(crate) fn cut_offsets(&mut self, from: usize, to: usize)
         requires { (from ≤ to) × (to ≤ length self.old.formal_offsets) }
         ensures { self.new ≡ record self.old { formal_offsets = remove_range self.old.formal_offsets from to } }

@@ -20,7 +20,7 @@ pub(crate) enum PackedKind {
     Back,
 }
 
-// An expansion point as it is kept: in small numbers, which all have but those far behind in a long body and names that no macro has.
+// An expansion point as it is kept: in small numbers, which all have but those far on in a long body and names that no macro has.
 #[derive(Clone, Copy, Drop)]
 pub(crate) struct PackedPoint {
     // Where it ends; 65,535 where there is none, or where it is unknown.
@@ -37,7 +37,7 @@ pub(crate) struct PackedPoint {
 // How many expansion points of a body are kept.
 pub(crate) const CACHED_POINTS: usize = 10;
 
-// The first expansion points of a body, each of them the first one behind the one before.
+// The first expansion points of a body, each of them the first one after the one before.
 #[derive(Clone, Copy, Drop)]
 pub(crate) struct PointCache {
     pub(crate) all: [PackedPoint; CACHED_POINTS],
@@ -153,7 +153,7 @@ fn kept_from(formals: &StoredFormals, shapes: &[bool], body: &[u8], from: u16) -
     }
 }
 
-// The first expansion points of a body, among formals as they lie in a table. Behind one that isn't known to end nothing is looked for.
+// The first expansion points of a body, among formals as they lie in a table. After one that isn't known to end nothing is looked for.
 pub(crate) fn cached_points(formals: &StoredFormals, body: &[u8]) -> PointCache
     requires listed { AreStoredFormals formals.now.count formals.now.list.now formals.now.formal_offsets.now }
     requires short { length body.now < 2 ^ 64 }
@@ -172,7 +172,7 @@ pub(crate) fn cached_points(formals: &StoredFormals, body: &[u8]) -> PointCache
     PointCache { all }
 }
 
-// The first expansion point of a range of a body, behind whose front no token goes on, where the expansion point that is kept as
+// The first expansion point of a range of a body, after whose front no token goes on, where the expansion point that is kept as
 // the first one from a place on tells it.
 #[tactic(auto, unfolding(crate::specs::PointCache::point_within, crate::specs::PointCache::point_kept))]
 fn point_within(body: &[u8], reach: usize, kept: PackedPoint, to: usize) -> Option<ExpansionPoint>
@@ -192,7 +192,7 @@ fn point_within(body: &[u8], reach: usize, kept: PackedPoint, to: usize) -> Opti
 }
 
 // The first expansion point of a range of a body, where the one that is kept as the first one from a place on tells it. No token goes
-// on at that place, nor behind plain argument bytes and an inert byte.
+// on at that place, nor after plain argument bytes and an inert byte.
 #[tactic(auto, unfolding(crate::specs::PointCache::point_known, crate::specs::PointCache::is_cut))]
 fn point_known(
     body: &[u8],
@@ -221,7 +221,7 @@ struct Candidate<'a> {
     kept: &'a PackedPoint,
 }
 
-// The first of the expansion points that are kept that ends behind a place, or else the last of them. One whose end isn't known is
+// The first of the expansion points that are kept that ends after a place, or else the last of them. One whose end isn't known is
 // kept with the end 65,535, and those after it tell nothing.
 fn candidate_at(points: &PointCache, from: usize) -> Candidate<'_>
     ensures order { result.start ≤ from }

@@ -22,7 +22,7 @@ fn move_down(entry: &mut Entry, size: usize, formal_offsets: usize)
     entry.formal_offsets = (entry.formal_offsets as usize - formal_offsets) as u32;
 }
 
-// The entries behind the first `by` ones come to the front, and their bytes and offsets were moved. One pass does both: a long list of
+// The entries after the first `by` ones come to the front, and their bytes and offsets were moved. One pass does both: a long list of
 // entries is read once.
 fn draw_down(entries: &mut [Entry], by: usize, size: usize, formal_offsets: usize)
     requires some { by ≤ length entries.old }
@@ -35,7 +35,7 @@ fn draw_down(entries: &mut [Entry], by: usize, size: usize, formal_offsets: usiz
     }
 }
 
-// Takes out the entry at a place; the bytes and the offsets of those behind it were moved so much further to the front.
+// Takes out the entry at a place; the bytes and the offsets of those after it were moved so much further to the front.
 fn take_entry(entries: &mut Vec<Entry>, place: usize, size: usize, formal_offsets: usize)
     requires place { place < vec_len entries.old }
     requires following { AreAfter size formal_offsets (drop place (remove entries.old.items place)) }
@@ -72,8 +72,8 @@ fn draw_up(entries: &mut [Entry], size: usize, formal_offsets: usize)
     }
 }
 
-// Takes out the entry at a place, counted behind the first `front` ones, which are given up: the entries between these and the place
-// move one place to the back, over the entry that is taken out, and the first place of theirs is given up too. Those behind stay where
+// Takes out the entry at a place, counted after the first `front` ones, which are given up: the entries between these and the place
+// move one place to the back, over the entry that is taken out, and the first place of theirs is given up too. Those after stay where
 // they are. The bytes of the moved ones were moved so much further to the back.
 fn cover_entry(
     entries: &mut Vec<Entry>,
@@ -91,7 +91,7 @@ fn cover_entry(
     draw_up(&mut entries[front..front + place + 1], size, formal_offsets);
 }
 
-// Takes bytes or numbers out of the middle: those behind move to the front as one block.
+// Takes bytes or numbers out of the middle: those after move to the front as one block.
 pub(crate) fn cut<T: Copy>(list: &mut Vec<T>, from: usize, to: usize)
     requires { (from ≤ to) × (to ≤ vec_len list.old) }
     ensures items { list.new.items ≡ remove_range list.old.items from to }
@@ -102,7 +102,7 @@ pub(crate) fn cut<T: Copy>(list: &mut Vec<T>, from: usize, to: usize)
     list.truncate(count - (to - from));
 }
 
-// Moves the bytes or numbers between two places so much further to the back, over those behind them.
+// Moves the bytes or numbers between two places so much further to the back, over those after them.
 pub(crate) fn cover<T: Copy>(list: &mut Vec<T>, from: usize, to: usize, size: usize)
     requires { (from ≤ to) × (to + size ≤ vec_len list.old) }
     ensures before { take from list.new.items ≡ take from list.old.items }
@@ -121,8 +121,8 @@ pub(crate) fn size_of_entry(entry: &Entry) -> usize
 }
 
 // Takes the bytes and the entry of the macro at a place out of those of a table. Where what stands before the macro is less than a
-// third of what stands behind it, it is moved to the back, over the macro, and its old room at the front is given up; else what stands
-// behind the macro is moved to the front, and so it is where nothing is given up yet and there is no room for one more macro of this
+// third of what stands after it, it is moved to the back, over the macro, and its old room at the front is given up; else what stands
+// after the macro is moved to the front, and so it is where nothing is given up yet and there is no room for one more macro of this
 // size, which the next definition would have to make by a move of all.
 fn take_stored(bytes: &mut Vec<u8>, entries: &mut Vec<Entry>, front: &mut GivenUp, place: usize)
     requires stored { IsStored front.old.bytes front.old.formal_offsets bytes.old.items (live front.old.entries entries.old.items) (macros_in bytes.old.items (live front.old.entries entries.old.items)) }
@@ -182,7 +182,7 @@ fn remove_at(
     take_stored(bytes, entries, front, place);
 }
 
-// Moves all that isn't given up to the fronts of the lists, so that the room of what is given up lies behind it.
+// Moves all that isn't given up to the fronts of the lists, so that the room of what is given up lies after it.
 pub(crate) fn settle(bytes: &mut Vec<u8>, entries: &mut Vec<Entry>, front: &mut GivenUp)
     requires stored { IsStored front.old.bytes front.old.formal_offsets bytes.old.items (live front.old.entries entries.old.items) (macros_in bytes.old.items (live front.old.entries entries.old.items)) }
     requires given_up { front.old.entries ≤ vec_len entries.old }

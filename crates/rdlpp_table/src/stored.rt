@@ -57,7 +57,7 @@ fn formal_text(bytes: &[u8]) -> &[u8]
     }
 }
 
-// What stands behind the comma of the formal with which bytes begin, whose name has so many bytes.
+// What stands after the comma of the formal with which bytes begin, whose name has so many bytes.
 #[inline(always)]
 #[tactic(auto, unfolding(crate::specs::Store::formal_read, crate::specs::Store::formal_after, crate::specs::Store::after_stored))]
 pub(crate) fn after_formal(bytes: &[u8], name_len: usize) -> &[u8]

@@ -1,4 +1,4 @@
-// A definition is put behind the others in a table's lists.
+// A definition is put after the others in a table's lists.
 ghost use Rattle.std.specs.Prelude.{
   [],
   bytes_eq,
@@ -45,7 +45,7 @@ fn small_arity(arity: Option<usize>) -> Option<u8>
     }
 }
 
-// Puts a macro behind the others, of which the index has a place already.
+// Puts a macro after the others, of which the index has a place already.
 fn put(
     bytes: &mut Vec<u8>,
     entries: &mut Vec<Entry>,
@@ -138,8 +138,8 @@ pub(crate) fn usage_without(
     }
 }
 
-// Where there is no room behind for so many bytes or for one more entry, or more is given up than is there, all moves to the front:
-// room that was given up there becomes room behind. So no more is given up then than is there. A move is paid for by the last removal
+// Where there is no room after for so many bytes or for one more entry, or more is given up than is there, all moves to the front:
+// room that was given up there becomes room after. So no more is given up then than is there. A move is paid for by the last removal
 // that gave up room, which left in place three quarters or more of what there was, and by the definitions since.
 fn make_room(bytes: &mut Vec<u8>, entries: &mut Vec<Entry>, front: &mut GivenUp, size: usize)
     requires stored { IsStored front.old.bytes front.old.formal_offsets bytes.old.items (live front.old.entries entries.old.items) (macros_in bytes.old.items (live front.old.entries entries.old.items)) }
@@ -162,7 +162,7 @@ fn make_room(bytes: &mut Vec<u8>, entries: &mut Vec<Entry>, front: &mut GivenUp,
     }
 }
 
-// Puts a macro behind the others, in the place of one of its name, where a search found one. No more is given up then than is there.
+// Puts a macro after the others, in the place of one of its name, where a search found one. No more is given up then than is there.
 pub(crate) fn replace(
     bytes: &mut Vec<u8>,
     entries: &mut Vec<Entry>,

@@ -80,7 +80,7 @@ many-more start before count most now is longer same = grind (arith, nat_lt, nat
 put-by : (count most : ℕ) (new last : List Range) (r : Range) → (count < most → last ≡ new ++ r ∷ []) → (most ≤ count → last ≡ new) → IsPut count most new last r
 put-by count most new last r puts stays = grind (arith, nat_lt, nat_tests, ltb-true)
 
--- the actuals that are left behind the first one
+-- the actuals that are left after the first one
 abbrev left_of : Bool → List ℕ → List (List SourceToken)
 left_of closes text = map (trimmed token_role) (parts_in closes text).further
 
@@ -351,7 +351,7 @@ pub record IsOpenedAt (text : List ℕ) (at end len : ℕ) : Type 0 where
   pub opens : opener_from 0 (body_tokens (slice_range text at end)) ≡ Some len
   pub inside : len ≤ length (slice_range text at end)
 
--- the text behind its `(`, in the front of the text and in the part
+-- the text after its `(`, in the front of the text and in the part
 record IsAfter (text : List ℕ) (at end len : ℕ) : Type 0 where
   fits : at + len ≤ end
   rest : drop (at + len) (take end text) ≡ drop len (slice_range text at end)

@@ -48,7 +48,7 @@ pub text_is_text : (m : Mode) (bs : List ℕ) → All (λ t. is_call_text (token
 unfolding text_tokens
 text_is_text m bs = spelled_text (tokens_from m 0 bs) bs
 
--- a scan behind so many things that it passes
+-- a scan after so many things that it passes
 unfoldable pub passing : {A : Type 0} → ℕ → Scanned A → Scanned A
 passing zero s = s
 passing (suc n) s = scan_onto [] (passing n s)
@@ -145,7 +145,7 @@ turn_text (Ends f line) k e = absurd (false≢true e)
 turn_text (Stops f line) k e = absurd (false≢true e)
 turn_text r k e = refl
 
--- the scan behind the `(` at a token of text
+-- the scan after the `(` at a token of text
 scan_inside : (k room : ℕ) (t : SourceToken) (ts : List SourceToken) → is_call_text (token_role t) ≡ true
     → scan token_role not_kept (Inside k) room (t ∷ ts)
     ≡ scanned (cond (ends_call (token_role t) k) Closes (cond (is_kept (token_role t)) Keeps Passes)) t
@@ -242,13 +242,13 @@ opened text from e =
       rest = body_text (drop from text) ∙ ap (λ (n : ℕ). text_tokens Plain (drop n text)) place ∙ b.0;
     }
 
--- a scan that closes behind things that it passes
+-- a scan that closes after things that it passes
 passing_closed : {A : Type 0} (n : ℕ) (ks : List A) (used : ℕ) → passing n (Closed ks used) ≡ Closed ks (n + used)
 unfolding passing scan_onto
 passing_closed zero ks used = let e : used ≡ 0 + used = omega arith in ap (λ i. Closed ks i) e
 passing_closed (suc n) ks used = grind (arith, (passing_closed n ks used))
 
--- a scan that lacks something behind things that it passes
+-- a scan that lacks something after things that it passes
 passing_refused : {A : Type 0} (n : ℕ) (f : FaultKind) → passing {A = A} n (ScanFault f) ≡ ScanFault f
 unfolding passing scan_onto
 passing_refused zero f = refl
@@ -266,7 +266,7 @@ pub front_all : {A : Type 0} (P : A → Type 0) (xs ys : List A) → All P (xs +
 front_all P [] ys all = All-nil P
 front_all P (x ∷ xs) ys all = All-cons P x xs (All-head P x (xs ++ ys) all) (front_all P xs ys (All-tail P x (xs ++ ys) all))
 
--- and of those behind some
+-- and of those after some
 back_all : {A : Type 0} (P : A → Type 0) (xs ys : List A) → All P (xs ++ ys) → All P ys
 back_all P [] ys all = all
 back_all P (x ∷ xs) ys all = back_all P xs ys (All-tail P x (xs ++ ys) all)
@@ -285,12 +285,12 @@ pub missing_call : (text : List ℕ) → opener_from 0 (body_tokens text) ≡ No
 unfolding call_of_scan
 missing_call text e room = grind (arith, body_is_text, opener_none)
 
--- a call in a text, behind its `(`, that isn't closed: it has all bytes of the text
+-- a call in a text, after its `(`, that isn't closed: it has all bytes of the text
 pub record IsUnclosedAt (text : List ℕ) (from : ℕ) : Type 0 where
   pub size : inner_size true (drop from text) ≡ length (drop from text)
   pub call : (room : ℕ) → call_of token_role not_kept room (body_tokens text) ≡ CallFault ArgumentsOpen
 
--- one that is closed: the call is that of the definition, with what is kept of its tokens, and behind its `)` stand those of the
+-- one that is closed: the call is that of the definition, with what is kept of its tokens, and after its `)` stand those of the
 -- text; where the text keeps all, so does the call
 pub record IsClosedAt (text : List ℕ) (from : ℕ) : Type 0 where
   pub size : inner_size true (drop from text) < length (drop from text)
@@ -347,7 +347,7 @@ closed_at text from o c =
     sum : (n m : ℕ) → n + m ≡ m + n
     sum n m = omega arith
 
--- each call behind a `(` is one of the two
+-- each call after a `(` is one of the two
 pub call_at : (text : List ℕ) (from : ℕ) → opener_from 0 (body_tokens text) ≡ Some from → IsUnclosedAt text from ⊎ IsClosedAt text from
 call_at text from e = grind (arith, common_steps, opened, unclosed_at, closed_at, ended, body_is_text)
 

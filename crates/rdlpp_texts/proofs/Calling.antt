@@ -76,7 +76,7 @@ pub parts_inside : (size from to : ℕ) (ranges : List Range) → to ≤ size �
 parts_inside size from to [] inside all = tt
 parts_inside size from to (r ∷ rs) inside all = let h = all.0.1.1 in (omega (arith, inside, h), parts_inside size from to rs inside all.1)
 
--- what is left of an open text behind a bound call is read as plain text
+-- what is left of an open text after a bound call is read as plain text
 pub after_part : (text : List ℕ) (from at end formals following : ℕ) (ranges : List Range) (b : IsBoundAt text at end formals ranges following) → from ≤ following
     → drop b.used (body_tokens (slice_range text at end)) ≡ part_tokens text (record { from = from + (following - from); end = end; mode = Plain })
 unfolding part_tokens
@@ -162,7 +162,7 @@ unfolding usage_of_formals usage_of_call
 source_breaks rules line name ts m fs f own e = ap (usage_of_call source_reads m fs line name) e
 
 -- in live text, a usage of the macro at a place, whose call was read and bound, comes to what remains of that body with those
--- ranges of the kept text as actuals, and then what remains behind its call
+-- ranges of the kept text as actuals, and then what remains after its call
 pub resumed_open : (rules : Rules) (os : List Progress) (first : Bool) (name : List ℕ) (line : ℕ) (ts : List SourceToken) (s : State) (d : ℕ) (texts : Texts) (id : ℕ)
     (fs : List Formal) (ranges : List Range) (following : List SourceToken) (b : OpensBound rules line name ts (macro_at texts.macros id) fs texts.arguments ranges following)
     → is_reserved name ≡ false → rules.depth ≡ suc d → macro_named s.macros name ≡ Some (macro_at texts.macros id)
@@ -226,7 +226,7 @@ has-list : {A : Type 0} (o : Option A) → is_some o ≡ true → (x : A) × (o 
 has-list None e = absurd (true≢false (sym e))
 has-list (Some x) e = (x, refl)
 
--- where the call of a usage at the front of an open text stands: in the text in which that lies, behind the usage
+-- where the call of a usage at the front of an open text stands: in the text in which that lies, after the usage
 pub record IsCallPlace (texts : Texts) (x : Open) (below : List Open) (len : ℕ) (text : List ℕ) (at end : ℕ) : Type 0 where
   pub text_is : text ≡ text_around texts x.kind x.parent below
   pub at_is : at ≡ x.part.from + len
@@ -239,7 +239,7 @@ call-place : (texts : Texts) (x : Open) (below : List Open) (peek : Peek) (len :
 unfolding IsPeek IsTextItem open_bytes
 call-place texts x below peek len text at h l e is k = grind (arith, front-is, source-around)
 
--- the tokens behind a usage
+-- the tokens after a usage
 call-tokens : (texts : Texts) (x : Open) (below : List Open) (len : ℕ) (text : List ℕ) (at end : ℕ) → AreSound texts (x ∷ below) → IsCallPlace texts x below len text at end
     → IsTextItem (source_formals texts (front_source (x ∷ below))) (open_bytes texts x below) (front.Usage len)
     → tokens_after texts x below ≡ body_tokens (slice_range text at end)
@@ -315,7 +315,7 @@ scope-text : (texts : Texts) (x : Open) (below : List Open) (part : Part) → x.
 unfolding open_scope text_around scope_text
 scope-text texts x below part h = grind (arith, next_is, text-around)
 
--- what is left behind a call that is bound
+-- what is left after a call that is bound
 call-left : (texts : Texts) (x : Open) (below : List Open) (len : ℕ) (text : List ℕ) (at end formals : ℕ) (ranges : List Range) (following : ℕ) (b : IsBoundAt text at end formals ranges following)
     → AreSound texts (x ∷ below) → IsCallPlace texts x below len text at end
     → IsTextItem (source_formals texts (front_source (x ∷ below))) (open_bytes texts x below) (front.Usage len) → at ≤ following
@@ -367,7 +367,7 @@ left-keeps : (text : List ℕ) (from end : ℕ) → KeepsAll (body_tokens (slice
 unfolding part_tokens
 left-keeps text from end h = subst (λ (ts : List SourceToken). KeepsAll ts) (body_text (slice_range text from end)) h
 
--- the body that a bound call opens is sound, in front of what is left behind the call
+-- the body that a bound call opens is sound, in front of what is left after the call
 sound-called : (table : TableView) (arguments : List ℕ) (x : Open) (below : List Open) (len id : ℕ) (text : List ℕ) (at end : ℕ) (c : IsCallBound table.macros text at end id)
     → IsSound table → AreSound (texts_of table.macros arguments) (x ∷ below) → IsCallPlace (texts_of table.macros arguments) x below len text at end
     → id < length table.macros
@@ -536,7 +536,7 @@ pass-call_opened table arguments view new peek len id parent text at o sound h s
       refused = tt;
     })
 
--- behind a call, opened or refused, a text is open
+-- after a call, opened or refused, a text is open
 pub opening-open : (macros : List Macro) (text : List ℕ) (at end id parent : ℕ) (old : CursorsView) (result : Opening) (new : CursorsView) → 0 < length old.opens
     → IsOpening macros text at end id parent old result new → 0 < length new.opens
 unfolding IsOpening

@@ -41,7 +41,7 @@ unfolding AreFalling
 last-gone [] d h = h
 last-gone (c ∷ cs) d h = inr (refl, last-gone cs d h)
 
--- the last digit is smaller, and others may stand behind it
+-- the last digit is smaller, and others may stand after it
 pub last-smaller : (ds rest : List ℕ) (d e : ℕ) → e < d → AreFalling (ds ++ d ∷ []) (ds ++ e ∷ rest)
 unfolding AreFalling
 last-smaller [] rest d e h = inl h
@@ -75,7 +75,7 @@ pub run-ends : (texts : Texts) (x : Open) (below : List Open) (n : ℕ) → 0 < 
 unfolding open_bytes
 run-ends texts x below n some inside = grind (arith, length-take)
 
--- the innermost open text goes on behind what is copied, by a look
+-- the innermost open text goes on after what is copied, by a look
 pub peek-moves : (texts : Texts) (opens : List Open) (peek : Peek) → IsPeekAhead texts opens peek → peek.from < peek.at
     → AreFalling (cursor_digits opens) (cursor_digits (moved_to peek.at opens))
 unfolding IsPeekAhead AreCopied moved_to

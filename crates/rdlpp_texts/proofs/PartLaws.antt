@@ -19,7 +19,7 @@ use Rattle.rdlpp_texts.specs.declared.parts.Part.{Part}
 use Rattle.rdlpp_texts.specs.declared.parts.PartEnd.{PartEnd}
 use Rattle.rdlpp_texts.specs.declared.parts.PartEnd.TheVariants.{Comma, Last}
 
--- Trimming from the front: things without the white space at their end, and what is behind white space.
+-- Trimming from the front: things without the white space at their end, and what is after white space.
 
 -- a thing in front of those without white space at their end
 unfoldable pub solid_front : {A : Type 0} → Bool → A → List A → List A
@@ -38,18 +38,18 @@ unfolding solid_front
 solid_last true x z [] = refl
 solid_last _ x z ys = refl
 
--- a last thing behind what is behind white space
+-- a last thing after what is after white space
 unfoldable last_after : {A : Type 0} → Bool → List A → A → List A
 last_after true [] x = []
 last_after false [] x = x ∷ []
 last_after b (y ∷ ys) x = y ∷ (ys ++ x ∷ [])
 
--- white space in front is dropped of a thing and the things behind it, by whether it is white space
+-- white space in front is dropped of a thing and the things after it, by whether it is white space
 space_by : {A : Type 0} (b : Bool) (x : A) (n : ℕ) (xs : List A) → drop (cond b (1 + n) 0) (x ∷ xs) ≡ cond b (drop n xs) (x ∷ xs)
 space_by true x n xs = let e : 1 + n ≡ suc n = omega arith in ap (λ i. drop i (x ∷ xs)) e
 space_by false x n xs = refl
 
--- white space in front is dropped of a thing and the things behind it
+-- white space in front is dropped of a thing and the things after it
 pub space_front : {A : Type 0} (role : A → Role) (x : A) (xs : List A) → after_leading_space role (x ∷ xs) ≡ cond (is_space (role x)) (after_leading_space role xs) (x ∷ xs)
 unfolding after_leading_space
 space_front role x xs = space_by (is_space (role x)) x (prefix_len (λ y. is_space (role y)) xs) xs
@@ -60,25 +60,25 @@ unfolding last_after
 one_by true x = refl
 one_by false x = refl
 
--- a last thing behind a thing that isn't white space
+-- a last thing after a thing that isn't white space
 last_more : {A : Type 0} (b : Bool) (y : A) (ys : List A) (x : A) → y ∷ (ys ++ x ∷ []) ≡ last_after b (y ∷ ys) x
 unfolding last_after
 last_more true y ys x = refl
 last_more false y ys x = refl
 
--- nothing is behind white space of nothing
+-- nothing is after white space of nothing
 pub space_nil : {A : Type 0} (role : A → Role) → after_leading_space {A = A} role [] ≡ []
 unfolding after_leading_space
 space_nil role = refl
 
--- what is behind white space, with one more thing at the end, by whether the first thing is white space
+-- what is after white space, with one more thing at the end, by whether the first thing is white space
 space_last_by : {A : Type 0} (role : A → Role) (b : Bool) (y : A) (ys : List A) (x : A)
     → after_leading_space role (ys ++ x ∷ []) ≡ last_after (is_space (role x)) (after_leading_space role ys) x
     → cond b (after_leading_space role (ys ++ x ∷ [])) (y ∷ (ys ++ x ∷ [])) ≡ last_after (is_space (role x)) (cond b (after_leading_space role ys) (y ∷ ys)) x
 space_last_by role true y ys x e = e
 space_last_by role false y ys x e = last_more (is_space (role x)) y ys x
 
--- what is behind white space, with one more thing at the end
+-- what is after white space, with one more thing at the end
 space_last : {A : Type 0} (role : A → Role) (ys : List A) (x : A) → after_leading_space role (ys ++ x ∷ []) ≡ last_after (is_space (role x)) (after_leading_space role ys) x
 space_last {A = A} role [] x = grind (arith, space_front, space_nil, one_by)
 space_last {A = A} role (y ∷ ys) x = grind (arith, space_front, space_last_by, (space_last role ys x))
@@ -103,7 +103,7 @@ solid_is {A = A} role (x ∷ xs) =
     ∙ ap (λ (ys : List A). reverse ys) (space_last role (reverse xs) x)
     ∙ last_reverse (is_space (role x)) (after_leading_space role (reverse xs)) x (solid role xs) (solid_is role xs)
 
--- trimmed things are those behind white space, without it at their end
+-- trimmed things are those after white space, without it at their end
 pub trimmed_is : {A : Type 0} (role : A → Role) (xs : List A) → trimmed role xs ≡ solid role (after_leading_space role xs)
 unfolding trimmed
 trimmed_is role xs = solid_is role (after_leading_space role xs)
@@ -139,7 +139,7 @@ solid_end at end (t ∷ ts) = at + length (bytes_of (t ∷ ts))
 pub more_bytes : (xs ys : List SourceToken) → length (bytes_of (xs ++ ys)) ≡ length (bytes_of xs) + length (bytes_of ys)
 more_bytes xs ys = ap length (flat_map-append (λ (t : SourceToken). t.bytes) xs ys) ∙ length-append (bytes_of xs) (bytes_of ys)
 
--- the first part ends at a comma, behind which the call goes on
+-- the first part ends at a comma, after which the call goes on
 record IsCutAt (closes : Bool) (at next : ℕ) (ts inner first : List SourceToken) (further : List (List SourceToken)) : Type 0 where
   comma : SourceToken
   more : List SourceToken
@@ -180,7 +180,7 @@ cut_level : (r : Role) (k : ℕ) → r ≡ Cut → k ≡ 0 → level_after r k �
 unfolding level_after
 cut_level r k e f = ap (λ (q : Role). level_after q k) e ∙ f
 
--- and nothing of the part behind it
+-- and nothing of the part after it
 cut_here : (closes : Bool) (r : Role) (k : ℕ) (t : SourceToken) (ts : List SourceToken) → r ≡ Cut → k ≡ 0
     → split_by r k t (split token_role (level_after r k) (inner_tokens closes (level_after r k) ts))
     ≡ record { first = []; further = all_parts (split token_role 0 (inner_tokens closes 0 ts)) }
@@ -232,7 +232,7 @@ part_in (t ∷ ts) closes start at level end =
     part_by (ends_text closes (token_role t) level) (ends_part (token_role t) level) closes start at level end t ts (part_from closes start here k e ts) refl
     (part_in ts closes start here k e)
 
--- the white space in front of a call's parts: what is behind it has the same parts, but for that white space
+-- the white space in front of a call's parts: what is after it has the same parts, but for that white space
 record HasLead (closes : Bool) (at : ℕ) (ts : List SourceToken) : Type 0 where
   lead : List SourceToken
   rest : List SourceToken
@@ -303,7 +303,7 @@ unfolding space_from split inner_tokens
 has_lead [] closes at = grind (arith, space_nil)
 has_lead (t ∷ ts) closes at = lead_by (is_space (token_role t)) closes at t ts refl (has_lead ts closes (at + length t.bytes))
 
--- behind white space a text goes on as plain text
+-- after white space a text goes on as plain text
 lead_after : (lead rest : List SourceToken) (bs : List ℕ) → text_tokens Plain bs ≡ lead ++ rest → All (λ t. token_role t ≡ Space) lead
     → (text_tokens Plain (drop (length (bytes_of lead)) bs) ≡ rest) × (length (bytes_of lead) ≤ length bs)
 unfolding closes_text
@@ -346,7 +346,7 @@ has_tokens : (bs : List ℕ) → nat_lt 0 (length (body_tokens bs)) ≡ nat_lt 0
 has_tokens [] = ap (λ (ts : List SourceToken). nat_lt 0 (length ts)) (body_text [] ∙ text_nil Plain)
 has_tokens (b ∷ bs) = grind (arith, text_step, nat_lt, body_text, nat_tests)
 
--- a range has bytes where its end is behind its beginning
+-- a range has bytes where its end is after its beginning
 range_some : (from to n : ℕ) → n ≡ to - from → nat_lt from to ≡ nat_lt 0 n
 range_some from to n e = grind (arith, nat_tests)
 

@@ -106,17 +106,17 @@ point-plain formals at InStr text bytes e = grind (arith, perl-none, string-none
 point-plain formals at InBlock text bytes e =
     holds-fails (is_none (point_at formals at (block_token 0 text) bytes)) (block-none formals at 0 text bytes) e
 
--- a part of a text behind some of its bytes
+-- a part of a text after some of its bytes
 pub slice-following : (text : List ℕ) (from to n : ℕ) → n ≤ length (slice_range text from to) → slice_range text (from + n) to ≡ drop n (slice_range text from to)
 slice-following text from to n h = grind (arith, length-take, range_after)
 
--- what is left of an open text behind some of its bytes
+-- what is left of an open text after some of its bytes
 pub bytes-following : (texts : Texts) (x : Open) (below : List Open) (n : ℕ) (mode : Mode) → n ≤ length (open_bytes texts x below)
     → open_bytes texts (open_after x n mode) below ≡ drop n (open_bytes texts x below)
 unfolding open_bytes open_after
 bytes-following texts x below n mode h = slice-following (text_around texts x.kind x.parent below) x.part.from x.part.end n h
 
--- an open text behind some bytes and then others
+-- an open text after some bytes and then others
 following-following : (x : Open) (n m : ℕ) (mode next : Mode) → open_after (open_after x n mode) m next ≡ open_after x (n + m) next
 unfolding open_after
 following-following x n m mode next = grind arith
@@ -125,7 +125,7 @@ following-following x n m mode next = grind arith
 abbrev pub HasFormals : Texts → List Formal → Open → List Open → Type 0
 HasFormals texts formals x below = formals ≡ scope_formals texts.macros (x ∷ below) (open_scope x below)
 
--- they are so behind some of its bytes too
+-- they are so after some of its bytes too
 formals-following : (texts : Texts) (formals : List Formal) (x : Open) (below : List Open) (n : ℕ) (mode : Mode) → HasFormals texts formals x below
     → HasFormals texts formals (open_after x n mode) below
 unfolding open_scope open_after
@@ -145,7 +145,7 @@ first-goes rules s line depth texts formals x below h f some e =
     (copied-by formals 0 t.len t.next_mode t.kind own own e)
     (subst (λ (fs : List Formal). Alone t.kind (formal_named fs own)) f (alone-by formals 0 t.len t.next_mode t.kind own e))
 
--- what is reached behind the tokens before the first stop
+-- what is reached after the tokens before the first stop
 pub record IsRun (rules : Rules) (s : State) (line depth : ℕ) (texts : Texts) (x : Open) (below : List Open) (n : ℕ) : Type 0 where
   pub inside : n ≤ length (open_bytes texts x below)
   pub mode : Mode
@@ -236,14 +236,14 @@ pub default-keeps : (table : TableView) (id place : ℕ) → IsSound table → i
     → KeepsAll (body_tokens (formal_at (formals_of (macro_at table.macros id)) place).text)
 default-keeps table id place sound h k = grind (arith, at-each, clean_table, keeps_all_by, clean_keeps_all)
 
--- what holds of the tokens of a text holds of those behind the first
+-- what holds of the tokens of a text holds of those after the first
 following-first : (P : SourceToken → Type 0) (m : Mode) (bytes : List ℕ) → 0 < length bytes → All P (text_tokens m bytes)
     → All P (text_tokens (token_of m bytes).next_mode (drop (token_of m bytes).len bytes))
 following-first P m bytes some all =
     let rest = text_tokens (token_of m bytes).next_mode (drop (token_of m bytes).len bytes) in
     All-tail P (first_spelled m bytes) rest (subst (λ (ts : List SourceToken). All P ts) (text_step m bytes some) all)
 
--- and of those behind a run, by whether the first is of it
+-- and of those after a run, by whether the first is of it
 following-by : (P : SourceToken → Type 0) (formals : List Formal) (m : Mode) (bytes : List ℕ) (n : ℕ) (none : Bool)
     → is_none (point_at formals 0 (token_of m bytes) (take (token_of m bytes).len bytes)) ≡ none → All P (text_tokens m bytes)
     → All P (text_tokens Plain (drop n (drop (token_of m bytes).len bytes)))
@@ -252,7 +252,7 @@ following-by P formals m bytes n true e all rest = subst (λ (b : List ℕ). All
 following-by P formals m bytes n false e all rest =
     subst (λ (mode : Mode). All P (text_tokens mode bytes)) (point-plain formals 0 m bytes (take (token_of m bytes).len bytes) e) all
 
--- and of those behind a run
+-- and of those after a run
 following-run : (P : SourceToken → Type 0) (formals : List Formal) (ts : List Token) (m : Mode) (bytes : List ℕ) → tokens_from m 0 bytes ≡ ts → All P (text_tokens m bytes)
     → All P (text_tokens Plain (drop (run_len formals ts bytes) bytes))
 unfolding run_len
@@ -273,7 +273,7 @@ pub sound-moved : (texts : Texts) (x : Open) (below : List Open) (at : ℕ) → 
 unfolding moved_to
 sound-moved texts x below at h keeps = grind arith
 
--- they are behind some bytes, where it is so of these bytes
+-- they are after some bytes, where it is so of these bytes
 bytes-sound : (texts : Texts) (x : Open) (below : List Open) (n : ℕ) → AreSound texts (x ∷ below) → n ≤ length (open_bytes texts x below)
     → KeepsAll (text_tokens Plain (drop n (open_bytes texts x below))) → AreSound texts (moved_to (x.part.from + n) (x ∷ below))
 unfolding part_tokens open_bytes open_after
@@ -286,7 +286,7 @@ pub left-keeps : (texts : Texts) (x : Open) (below : List Open) → AreSound tex
 unfolding part_tokens open_bytes
 left-keeps texts x below h = subst (λ (m : Mode). KeepsAll (text_tokens m (open_bytes texts x below))) (h.are_inside).1.1.0 (h.are_kept).0
 
--- so are open texts of which the innermost goes on behind a run
+-- so are open texts of which the innermost goes on after a run
 pub run-sound : (texts : Texts) (formals : List Formal) (x : Open) (below : List Open) (n : ℕ) → AreSound texts (x ∷ below) → n ≤ length (open_bytes texts x below)
     → run_len formals (tokens_from Plain 0 (open_bytes texts x below)) (open_bytes texts x below) ≡ n
     → AreSound texts (moved_to (x.part.from + n) (x ∷ below))
@@ -296,7 +296,7 @@ run-sound texts formals x below n h inside e =
     (subst (λ (k : ℕ). KeepsAll (text_tokens Plain (drop k bytes))) e
     (following-run (λ u. is_kept (token_role u) ≡ true) formals (tokens_from Plain 0 bytes) Plain bytes refl (left-keeps texts x below h)))
 
--- and behind a first token of a kind that closes, as a name and a usage do
+-- and after a first token of a kind that closes, as a name and a usage do
 pub first-sound : (texts : Texts) (x : Open) (below : List Open) (len : ℕ) → AreSound texts (x ∷ below) → 0 < length (open_bytes texts x below)
     → opens_mode (token_of Plain (open_bytes texts x below)).kind ≡ false → (token_of Plain (open_bytes texts x below)).len ≡ len
     → AreSound texts (moved_to (x.part.from + len) (x ∷ below))
@@ -352,7 +352,7 @@ pub bytes-first : (texts : Texts) (x : Open) (below : List Open) (len : ℕ) →
 unfolding first_bytes
 bytes-first texts x below len m e = grind arith
 
--- behind a first token of a kind that closes, the open text goes on as plain text
+-- after a first token of a kind that closes, the open text goes on as plain text
 pub first-moved : (texts : Texts) (x : Open) (below : List Open) (len : ℕ) → x.part.mode ≡ Plain → opens_mode (token_of Plain (open_bytes texts x below)).kind ≡ false
     → (token_of Plain (open_bytes texts x below)).len ≡ len → first_after texts x below ≡ open_after x len Plain
 unfolding first_after
@@ -430,7 +430,7 @@ peek-run line depth texts (x ∷ below) peek h l more =
     let at : peek.at ≡ x.part.from + n = omega (arith, from, more) in
     grind arith
 
--- behind what is copied the open texts are sound
+-- after what is copied the open texts are sound
 pub peek-passed : (texts : Texts) (opens : List Open) (peek : Peek) → AreSound texts opens → IsPeekAhead texts opens peek → AreSound texts (moved_to peek.at opens)
 unfolding IsPeekAhead AreCopied
 peek-passed texts [] peek h l = absurd l
@@ -507,7 +507,7 @@ pub silent-on : (rules : Rules) (s : State) (texts : Texts) (view mid new : Curs
     → open_left rules s view.line view.depth texts mid.opens ≡ open_left rules s view.line view.depth texts new.opens
 silent-on rules s texts view mid new kept e = grind arith
 
--- a run that is lent, and behind it a step that lends nothing, are one step
+-- a run that is lent, and after it a step that lends nothing, are one step
 pub pass-on : (texts : Texts) (view mid new : CursorsView) (place : TextPlace) → IsPassed texts view mid (Lends place) → IsPassed texts mid new Silent
     → IsPassed texts view new (Lends place)
 unfolding IsFalling StaysRefused IsStep StepsTo

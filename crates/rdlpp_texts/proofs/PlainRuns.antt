@@ -168,7 +168,7 @@ word_skip closes start at level bs (suc n) e =
     let all = prefix_len-le-length is_word bs in
     text_turn closes start at level at bs (suc n) (word_text bs (suc n) e (omega arith) (omega (arith, e, all)))
 
--- a token that is a byte and the word behind it is passed as the byte is, and then the word
+-- a token that is a byte and the word after it is passed as the byte is, and then the word
 taken_step : (closes : Bool) (start at level end b : ℕ) (bs : List ℕ) → IsFirstToken Plain (b ∷ bs) (call.plain_token role.Text (suc (prefix_len is_word bs)))
     → part_from closes start at level end (text_tokens Plain (b ∷ bs)) ≡ part_from closes start (at + 1) level (at + 1) (text_tokens Plain bs)
 taken_step closes start at level end b bs f =
@@ -232,7 +232,7 @@ line_step closes start at level end b bs e =
     subst (λ (n : ℕ). IsFirstToken Plain (n ∷ bs) (call.plain_token role.Space 1)) (sym (eqb-true b 10 e)) (line_here bs) in
     space_turn closes start at level end (b ∷ bs) 1 here
 
--- the token of any other plain argument byte is that byte alone, or takes the word behind it along
+-- the token of any other plain argument byte is that byte alone, or takes the word after it along
 IsPlainArgumentFirst : ℕ → List ℕ → Type 0
 IsPlainArgumentFirst b bs = IsFirstToken Plain (b ∷ bs) (call.plain_token role.Text 1) ⊎ IsFirstToken Plain (b ∷ bs) (call.plain_token role.Text (suc (prefix_len is_word bs)))
 
@@ -444,7 +444,7 @@ run_step p skip b bs e =
 one_step : (b : ℕ) (bs : List ℕ) (k : Kind) → token_of Plain (b ∷ bs) ≡ whole k 1 → is_back k ≡ false → run (b ∷ bs) ≡ 1 + run bs
 one_step b bs k e still = turn (b ∷ bs) k 1 (omega arith) e still
 
--- a byte that takes the word behind it along
+-- a byte that takes the word after it along
 run_taken : (b : ℕ) (bs : List ℕ) → token_of Plain (b ∷ bs) ≡ whole Word (suc (prefix_len is_word bs)) → run (b ∷ bs) ≡ 1 + run bs
 unfolding is_back
 run_taken b bs e =

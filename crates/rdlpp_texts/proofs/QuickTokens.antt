@@ -142,7 +142,7 @@ pub token_at : (mode : Mode) (text : List ℕ) (at : ℕ) (token : CallToken) �
 token_at mode text at token inside f =
     subst (λ (x : List ℕ). IsFirstToken mode x token) (between_to_end text at (length text) (omega arith)) f
 
--- behind a token lies the rest of the text
+-- after a token lies the rest of the text
 rest_after : (mode : Mode) (text : List ℕ) (at : ℕ) (token : CallToken) → drop token.len (drop at text) ≡ drop (at + token.len) text
 rest_after mode text at token = drop-drop token.len at text
 
@@ -196,7 +196,7 @@ opener_lacks role.BlockComment here rest a b c d = absurd (c refl)
 opener_lacks role.Start here rest a b c d = absurd (d refl)
 opener_lacks _ here rest a b c d = refl
 
--- the level is at most one higher behind a token, and so at most the place behind it
+-- the level is at most one higher after a token, and so at most the place after it
 pub level_low : (r : CallRole) (level at len now : ℕ) → 0 < len → level ≤ at → now ≡ level_after (role_meant r) level → now ≤ at + len
 unfolding level_after role_meant
 level_low role.Space level at len now some low e = omega (arith, e)

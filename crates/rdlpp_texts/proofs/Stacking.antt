@@ -27,7 +27,7 @@ use Rattle.rdlpp_texts.proofs.Scoping.{opens-length}
 
 -- The macros in whose text a scope is lie within the bounds of its frame.
 
--- the frame at a place, in front of those behind it
+-- the frame at a place, in front of those after it
 pub frames-at : (frames : List Frame) (first : ℕ) (own : Frame) → first < length frames → own ≡ get_or frames first own
     → drop first frames ≡ own ∷ drop (first + 1) frames
 frames-at frames first own inside e = drop_more frames first own inside ∙ ap (λ (y : Frame). y ∷ drop (first + 1) frames) (sym e)
@@ -132,7 +132,7 @@ pub moved-bounded : (frames : List Frame) (first at : ℕ) (own : Frame) → fir
 unfolding AreBounded
 moved-bounded frames first at own inside e h = grind (arith, frames-at, drop-set)
 
--- so are those behind one that is closed
+-- so are those after one that is closed
 pub closed-bounded : (frames : List Frame) (first : ℕ) (own : Frame) → first < length frames → own ≡ get_or frames first own → AreBounded (drop first frames)
     → AreBounded (drop (first + 1) frames)
 unfolding AreBounded
@@ -191,7 +191,7 @@ some-open frames first bindings some = grind (arith, opens-length, length-drop)
 pub open-count : (frames : List Frame) (first : ℕ) (bindings : List Range) → length (opens_of (drop first frames) bindings) ≡ length frames - first
 open-count frames first bindings = opens-length (drop first frames) bindings ∙ length-drop first frames
 
--- no text is open behind the last frame
+-- no text is open after the last frame
 pub none-open : (frames : List Frame) (first : ℕ) (bindings : List Range) → length frames ≤ first → opens_of (drop first frames) bindings ≡ []
 unfolding opens_of
 none-open frames first bindings h = ap (λ (s : List Frame). opens_of s bindings) (drop_all first frames h)
@@ -378,7 +378,7 @@ pub call-room : (frames : List Frame) (memory depth first n : ℕ) (bindings : V
     → vec_len bindings + n ≤ vec_capacity bindings
 call-room frames memory depth first n bindings h few = grind (arith, common_steps, count_items, drop-few, laid-few)
 
--- a frame for the body of a macro whose ranges stand behind so many
+-- a frame for the body of a macro whose ranges stand after so many
 abbrev pub body-frame : ℕ → ℕ → ℕ → ℕ → Bounds → Frame
 body-frame id end parent n bounds = record { from = 0; end = end; parent = parent; kind = frame.Body id n; bounds = bounds }
 

@@ -62,7 +62,7 @@ unfolding PlaceTells
 tells-more at own n len rest None fits e h = omega (arith, fits, e, h)
 tells-more at own n len rest (Some p) fits e h = (let a = h.0 in omega (arith, a), let b = h.1 in omega (arith, fits, e, b))
 
--- the first expansion point of a text stands behind the tokens before it
+-- the first expansion point of a text stands after the tokens before it
 points-at : (formals : List Formal) (at : ℕ) (ts : List Token) (mode : Mode) (text : List ℕ) → tokens_from mode 0 text ≡ ts
     → PlaceTells at (run_len formals ts text) (length text) (point_place (next_expansion_point formals at ts text))
 unfolding run_len next_expansion_point PlaceTells
@@ -117,7 +117,7 @@ bare-by formals at len next Name bytes p e = grind arith
 bare-by formals at len next BareBackquote bytes p e = refl
 bare-by formals at len next kind bytes p e = absurd (cc)
 
--- the first expansion point of a text is that of what stands behind the tokens before it, which is read from plain text on
+-- the first expansion point of a text is that of what stands after the tokens before it, which is read from plain text on
 point-following : (formals : List Formal) (at : ℕ) (ts : List Token) (mode : Mode) (text : List ℕ) → tokens_from mode 0 text ≡ ts
     → is_none (next_expansion_point formals at ts text) ≡ false
     → next_expansion_point formals (at + run_len formals ts text) (tokens_from Plain 0 (drop (run_len formals ts text) text)) (drop (run_len formals ts text) text)
@@ -178,7 +178,7 @@ unfolding run_len tokens_from
 run-empty formals [] h = refl
 run-empty formals (b ∷ bs) h = absurd (omega (arith, h))
 
--- no run stands behind a run
+-- no run stands after a run
 pub run-following : (formals : List Formal) (text : List ℕ) (n : ℕ) → n ≡ run_len formals (tokens_from Plain 0 text) text
     → run_len formals (tokens_from Plain 0 (drop n text)) (drop n text) ≡ 0
 unfolding point_of PlaceTells
@@ -258,7 +258,7 @@ ahead-whole formals from end text e s =
     (points-at formals from (tokens_from Plain 0 text) Plain text refl) in
     grind (arith, drop_all)
 
--- the run of a text without formals, and what stands behind it
+-- the run of a text without formals, and what stands after it
 pub ahead-plain : (text : List ℕ) (n from : ℕ) (own : TextItem) → n ≡ run_len [] (tokens_from Plain 0 text) text → n ≤ length text
     → IsTextItem [] (drop n text) own → IsNextItem [] text from (record { at = from + n; front = own })
 unfolding AreCopied IsNextItem

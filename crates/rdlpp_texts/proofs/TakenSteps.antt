@@ -170,7 +170,7 @@ pub no-body : (new : Frame) → IsOpenText (open_of new []).kind → IsNoBody ne
 unfolding IsOpenText
 no-body new t = grind arith
 
--- what is found for the formal whose name stands at the front is sound in front of what is left behind that name
+-- what is found for the formal whose name stands at the front is sound in front of what is left after that name
 pub formal-sound : (table : TableView) (texts : Texts) (opens : List Open) (peek : Peek) (len place : ℕ) (frame : Frame) → IsSound table → texts.macros ≡ table.macros
     → AreSound texts opens → IsPeek texts opens peek → peek.front ≡ front.Formal len place
     → found_standing texts.macros (scope_open opens (front_scope opens)) (front_scope opens) place ≡ Some (open_of frame [])
@@ -220,7 +220,7 @@ pub room-moved : (view mid : CursorsView) (at : ℕ) → nat_le view.depth (leng
     → mid ≡ record { opens = moved_to at view.opens; line = view.line; depth = view.depth } → length mid.opens < mid.depth
 room-moved view mid at room e = moved-room view mid at e (leb-false view.depth (length view.opens) room)
 
--- what a formal stands for is opened behind its name
+-- what a formal stands for is opened after its name
 pub pass-formal : (table : TableView) (texts : Texts) (view mid new : CursorsView) (peek : Peek) (len place at : ℕ) (frame : Frame) → IsSound table → texts.macros ≡ table.macros
     → AreSound texts view.opens → IsPeek texts view.opens peek → peek.front ≡ front.Formal len place
     → Some (open_of frame []) ≡ found_standing texts.macros (scope_open view.opens (front_scope view.opens)) (front_scope view.opens) place
@@ -266,7 +266,7 @@ usage-len bs t (AtBack h e) is = ap (λ (u : Token). u.len) e
 usage-len bs t (AtBare h g e) is = absurd (let k : BareBackquote ≡ Back = sym (ap (λ (u : Token). u.kind) e) ∙ is in cc)
 usage-len bs t (AtPlain h q) is = absurd (false≢true (sym (ap is_plain_kind is) ∙ h))
 
--- what stands behind the first of so many bytes
+-- what stands after the first of so many bytes
 following-one : (n : ℕ) (bs : List ℕ) → drop 1 (take (suc n) bs) ≡ take n (drop 1 bs)
 following-one zero [] = refl
 following-one (suc n) [] = refl
@@ -298,7 +298,7 @@ word-named texts opens peek len kind word h l e is =
 pub word-none : (texts : Texts) (kind : FaultKind) → NamesWord texts (wordless kind)
 word-none texts kind = ap (λ (bytes : List ℕ). list_all is_word bytes) (no-word texts Arguments)
 
--- Steps of open texts: what makes one, and what holds behind a run that is lent.
+-- Steps of open texts: what makes one, and what holds after a run that is lent.
 
 -- what such a step has left
 taken-passed : (texts : Texts) (view new : CursorsView) (step : CursorStep) → TakesStep texts view step new → IsPassed texts view new step
@@ -374,7 +374,7 @@ ended-spent texts (x ∷ below) peek h l e =
     by : (end from : ℕ) → end ≤ from → nat_le end from ≡ true
     by end from less = le-leb end from less
 
--- nothing is done where the last text has ended, behind a run that is lent
+-- nothing is done where the last text has ended, after a run that is lent
 pub idle-last : (lent : Bool) (count : ℕ) (f : TextItem) → f ≡ front.Ended → lent ≡ true → nat_le count 1 ≡ true → is_idle lent count f ≡ true
 unfolding is_idle
 idle-last true count f e l last = ap (λ (g : TextItem). is_idle true count g) e ∙ last
@@ -404,7 +404,7 @@ moved-same : (texts : Texts) (view mid : CursorsView) (peek : Peek) → AreSound
 unfolding moved_to IsPeekAhead
 moved-same texts view mid peek h l less is = grind arith
 
--- what a look tells of the open texts that go on behind what is copied
+-- what a look tells of the open texts that go on after what is copied
 peek-following : (texts : Texts) (opens : List Open) (peek : Peek) → IsPeekAhead texts opens peek → IsPeek texts (moved_to peek.at opens) peek
 unfolding IsPeekAhead
 peek-following texts [] peek l = absurd l
@@ -428,7 +428,7 @@ pub record IsOn (texts : Texts) (view mid : CursorsView) (peek : Peek) (bytes : 
   pub runs : peek.from < peek.at → IsPassed texts view mid (Lends (run_of peek)) × IsPlacedStep texts (Lends (run_of peek))
   pub stays : peek.at ≤ peek.from → mid ≡ view
 
--- so it is behind a look
+-- so it is after a look
 pub on-peek : (texts : Texts) (view mid : CursorsView) (peek : Peek) (bytes : List ℕ) → AreSound texts view.opens → IsPeekAhead texts view.opens peek → 0 < length view.opens
     → bytes ≡ source_text texts peek.source → peek.end < 2 ^ 64 → mid ≡ record { opens = moved_to peek.at view.opens; line = view.line; depth = view.depth } → IsOn texts view mid peek bytes
 on-peek texts view mid peek bytes h l some text short is = record {
@@ -445,7 +445,7 @@ on-peek texts view mid peek bytes h l some text short is = record {
   stays = λ less. moved-same texts view mid peek h l less is;
 }
 
--- a run that is lent is a step, with what is done behind it
+-- a run that is lent is a step, with what is done after it
 pub on-lent : (texts : Texts) (view mid new : CursorsView) (peek : Peek) (bytes : List ℕ) (lent : Bool) (step : CursorStep) → IsOn texts view mid peek bytes → peek.from < peek.at
     → (is_idle lent (length mid.opens) peek.front ≡ false → TakesStep texts mid step new) → (is_idle lent (length mid.opens) peek.front ≡ true → new ≡ mid)
     → 0 < length new.opens → IsUnlent step → TakesStep texts view (Lends (record { source = peek.source; from = peek.from; end = peek.at })) new
@@ -482,11 +482,11 @@ pub on-taken : (texts : Texts) (view mid new : CursorsView) (peek : Peek) (bytes
 unfolding is_idle
 on-taken texts view mid new peek bytes lent step on less miss taken = grind (arith, true≢false)
 
--- where two are open, one is behind the innermost
+-- where two are open, one is after the innermost
 pub rest-open : (view new : CursorsView) → 1 < length view.opens → new ≡ record { opens = drop 1 view.opens; line = view.line; depth = view.depth } → 0 < length new.opens
 rest-open view new many is = grind (arith, length-drop)
 
--- fewer are open behind the innermost
+-- fewer are open after the innermost
 pub rest-fewer : (view new : CursorsView) → 0 < length view.opens → new ≡ record { opens = drop 1 view.opens; line = view.line; depth = view.depth }
     → length new.opens < length view.opens
 rest-fewer view new some is = grind (arith, length-drop)

@@ -88,7 +88,7 @@ pub peek-front : (texts : Texts) (x : Open) (below : List Open) (source : TextSo
 unfolding open_bytes
 peek-front texts x below source f h e is = grind (arith, source-around)
 
--- what stands behind what is copied is what a look tells of the open texts of which the innermost goes on there
+-- what stands after what is copied is what a look tells of the open texts of which the innermost goes on there
 peek-ahead : (texts : Texts) (x : Open) (below : List Open) (peek : Peek) → peek.source ≡ front_source (x ∷ below) → peek.from ≡ x.part.from → peek.end ≡ x.part.end
     → IsNextItem (source_formals texts (front_source (x ∷ below))) (open_bytes texts x below) x.part.from (record { at = peek.at; front = peek.front })
     → IsPeekAhead texts (x ∷ below) peek
@@ -163,11 +163,11 @@ unfolding IsPeek open_bytes
 usage-place texts [] peek len h l e = absurd l
 usage-place texts (x ∷ below) peek len h l e = grind (arith, usage-some, front-is, length-take, source-known, source-inside)
 
--- a part of a text behind its first byte
+-- a part of a text after its first byte
 following-first : (text : List ℕ) (from n : ℕ) → from + n ≤ length text → 0 < n → slice_range text (from + 1) (from + n) ≡ drop 1 (slice_range text from (from + n))
 following-first text from n h some = grind (arith, length-take, length-drop, slice-following)
 
--- the name of a usage is what stands behind its backquote
+-- the name of a usage is what stands after its backquote
 pub usage-word : (texts : Texts) (opens : List Open) (peek : Peek) (len from end : ℕ) → AreSound texts opens → IsPeek texts opens peek → peek.front ≡ front.Usage len
     → from ≡ peek.at + 1 → end ≡ peek.at + len
     → place_bytes texts (record { source = peek.source; from = from; end = end }) ≡ front_name texts opens len
@@ -392,7 +392,7 @@ unfolding moved_to
 moved-length [] at = refl
 moved-length (x ∷ below) at = refl
 
--- behind a usage open texts are sound
+-- after a usage open texts are sound
 pub sound-following : (texts : Texts) (opens : List Open) (peek : Peek) (len at : ℕ) → AreSound texts opens → IsPeek texts opens peek → peek.front ≡ front.Usage len
     → at ≡ peek.at + len → AreSound texts (moved_to at opens)
 unfolding IsPeek IsTextItem
@@ -563,7 +563,7 @@ placed-run texts (x ∷ below) peek h l more =
     let ends = run-ends texts x below (peek.at - peek.from) (omega (arith, more)) l.3.0 in
     grind (arith, source-inside, source-known)
 
--- a text stays open behind a run that is lent
+-- a text stays open after a run that is lent
 pub open-run : (old new : CursorsView) (at : ℕ) → 0 < length old.opens → new ≡ record { opens = moved_to at old.opens; line = old.line; depth = old.depth } → 0 < length new.opens
 open-run old new at some e = subst (λ (v : CursorsView). 0 < length v.opens) (sym e) (let n = moved-length old.opens at in omega (arith, n, some))
 

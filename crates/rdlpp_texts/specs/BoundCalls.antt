@@ -26,7 +26,7 @@ range_part r = record { from = r.from; end = r.to; mode = Plain }
 abbrev pub ranges_tokens : List ℕ → List Range → List (List SourceToken)
 ranges_tokens text ranges = map (part_tokens text) (map range_part ranges)
 
--- the ranges that stand behind those that were there before
+-- the ranges that stand after those that were there before
 abbrev pub added : List Range → List Range → List Range
 added old new = drop (length old) new
 
@@ -80,8 +80,8 @@ abbrev pub usage_in : Rules → ℕ → List ℕ → Macro → List Formal → L
 usage_in rules line name m formals text at end =
     usage_of_formals rules text_reads line name (body_tokens (slice_range text at end)) m (Some formals)
 
--- a call of a macro with so many formals that is bound to ranges of its text: those are its actuals, behind it stands the text
--- from a place on, and no call in them or behind it drops a token either
+-- a call of a macro with so many formals that is bound to ranges of its text: those are its actuals, after it stands the text
+-- from a place on, and no call in them or after it drops a token either
 pub record IsBoundAt (text : List ℕ) (at end formals : ℕ) (ranges : List Range) (following : ℕ) : Type 0 where
   pub used : ℕ
   pub opens : (rules : Rules) (line : ℕ) (name : List ℕ) (m : Macro) (fs : List Formal) → length fs ≡ formals
@@ -91,7 +91,7 @@ pub record IsBoundAt (text : List ℕ) (at end formals : ℕ) (ranges : List Ran
   pub keeps_after : KeepsAll (body_tokens (slice_range text following end))
   pub count : length ranges ≡ formals
 
--- what binding the call of a macro with so many formals comes to, in a part of a text: ranges and the place behind it, or what
+-- what binding the call of a macro with so many formals comes to, in a part of a text: ranges and the place after it, or what
 -- the usage is refused for (source: this project's profile)
 unfoldable pub IsBoundCall : List ℕ → ℕ → ℕ → ℕ → List Range → Result ℕ FaultKind → Type 0
 IsBoundCall text at end formals ranges (Ok following) = IsBoundAt text at end formals ranges following

@@ -43,6 +43,6 @@ quick_role b =
     else (if is_closer b then Closer
     else Text))))
 
--- a token of a role and a size with plain text behind it
+-- a token of a role and a size with plain text after it
 abbrev pub plain_token : CallRole → ℕ → CallToken
 plain_token r n = record { role = r; len = n; next_mode = Plain }

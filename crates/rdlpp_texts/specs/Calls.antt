@@ -17,7 +17,7 @@ use Rattle.rdlpp_texts.specs.declared.cursors.call.Opening.{Opening}
 use Rattle.rdlpp_texts.specs.declared.cursors.call.Opening.TheVariants.{Opened, Refused, Deep}
 
 -- a call of the macro at a place of a table, from a place of a text up to another, is bound to ranges of the text, and the text
--- goes on behind it
+-- goes on after it
 pub record IsCallBound (macros : List Macro) (text : List ℕ) (at end id : ℕ) : Type 0 where
   pub ranges : List Range
   pub following : ℕ
@@ -26,7 +26,7 @@ pub record IsCallBound (macros : List Macro) (text : List ℕ) (at end id : ℕ)
   pub bound : IsBoundCall text at end (length (formals_of (macro_at macros id))) ranges (Ok following)
 
 -- a call in the innermost of open texts opens the body of its macro, with those ranges, in front of the texts that go on
--- behind it
+-- after it
 pub record IsCallOpened (macros : List Macro) (text : List ℕ) (at end id parent : ℕ) (old new : CursorsView) : Type 0 where
   pub call : IsCallBound macros text at end id
   pub room : length old.opens < old.depth

@@ -14,7 +14,7 @@ open_digit x = x.part.end - x.part.from + 1
 unfoldable pub cursor_digits : List Open → List ℕ
 cursor_digits opens = reverse (map open_digit opens)
 
--- digits fall: the first one that changes is smaller or is gone, whatever stands behind it
+-- digits fall: the first one that changes is smaller or is gone, whatever stands after it
 unfoldable pub AreFalling : List ℕ → List ℕ → Type 0
 AreFalling [] new = ⊥
 AreFalling (d ∷ old) [] = 0 < d

@@ -104,7 +104,7 @@ pub record IsStack {A : Type 0} (frames : List Frame) (memory depth first : ℕ)
   pub bounded : AreBounded (drop first frames)
   pub room : vec_capacity bindings ≡ 255 * (depth + 1)
 
--- a frame may be opened at a place, behind which the frames that are open stand as they did
+-- a frame may be opened at a place, after which the frames that are open stand as they did
 pub record IsFree (frames wide : List Frame) (depth first place : ℕ) : Type 0 where
   pub kept : drop (place + 1) wide ≡ drop first frames
   pub inside : place < length wide

@@ -10,7 +10,7 @@ use Rattle.rdlpp_meaning.specs.State.{Rules}
 use Rattle.rdlpp_texts.specs.BoundCalls.{ranges_tokens}
 use Rattle.rdlpp_texts.specs.declared.bindings.Range.{Range}
 
--- a usage in a source that opens a macro with these ranges of the kept bytes as actuals, with the tokens behind it
+-- a usage in a source that opens a macro with these ranges of the kept bytes as actuals, with the tokens after it
 pub record OpensBound (rules : Rules) (line : ℕ) (name : List ℕ) (ts : List SourceToken) (m : Macro) (fs : List Formal) (bytes : List ℕ) (ranges : List Range)
     (following : List SourceToken) : Type 0 where
   pub used : ℕ

@@ -1,4 +1,4 @@
--- One step of open texts: what it lends, and what remains behind it.
+-- One step of open texts: what it lends, and what remains after it.
 -- A definition that names no source is this project's own.
 use Rattle.std.specs.Prelude.{◌≡◌, ℕ, ◌<◌, ◌≤◌, true, List, [], ◌∷◌, length}
 use Rattle.std.specs.List.{AllByRecursion, list_all}
@@ -68,7 +68,7 @@ pub record AreSound (texts : Texts) (opens : List Open) : Type 0 where
   pub are_inside : AreInside texts opens
   pub are_kept : AreKept texts opens
 
--- nothing has opened or moved behind a fault
+-- nothing has opened or moved after a fault
 unfoldable pub StaysRefused : CursorsView → CursorStep → CursorsView → Type 0
 StaysRefused old (Lends place) new = Unit
 StaysRefused old Silent new = Unit
@@ -80,7 +80,7 @@ IsPlacedStep texts (Lends place) = IsPlaced texts place
 IsPlacedStep texts Silent = Unit
 IsPlacedStep texts (Refused fault) = IsPlaced texts fault.word
 
--- a text stays open behind bytes that a step lends
+-- a text stays open after bytes that a step lends
 abbrev pub KeepsOpen : CursorStep → List Open → Type 0
 KeepsOpen (Lends place) new = 0 < length new
 KeepsOpen Silent new = Unit

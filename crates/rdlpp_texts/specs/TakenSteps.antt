@@ -14,9 +14,9 @@ use Rattle.rdlpp_texts.specs.declared.peek.TextItem.TheVariants.{Ended, Formal a
 use Rattle.rdlpp_texts.specs.declared.peek.Peek.{Peek}
 use Rattle.rdlpp_texts.specs.declared.step.CursorStep.{CursorStep}
 
--- a step: what it lends, opens or closes is what expansion has there, and what is open behind it is sound, at the same line and for as many texts;
+-- a step: what it lends, opens or closes is what expansion has there, and what is open after it is sound, at the same line and for as many texts;
 -- the digits of the work left fall, unless it is refused, where nothing changes; what it lends stood at the front and lies in its text, and a text
--- stays open behind it; a fault is one of a text, whose word is a name; and the outermost text stays, while one is open
+-- stays open after it; a fault is one of a text, whose word is a name; and the outermost text stays, while one is open
 pub record TakesStep (texts : Texts) (old : CursorsView) (result : CursorStep) (new : CursorsView) : Type 0 where
   pub step : IsStep old.line old.depth texts old.opens result new.opens
   pub sound : AreSound texts new.opens
@@ -39,7 +39,7 @@ pub record PeeksAt (texts : Texts) (opens : List Open) (seen : Peek) (bytes : Li
   pub text : bytes ≡ source_text texts seen.source
   pub short : seen.end < 2 ^ 64
 
--- whether nothing is done at the front of so many open texts, behind a run that is lent: where the last one has ended
+-- whether nothing is done at the front of so many open texts, after a run that is lent: where the last one has ended
 unfoldable pub is_idle : Bool → ℕ → TextItem → Bool
 is_idle false count front = false
 is_idle true count Ended = nat_le count 1

@@ -24,8 +24,8 @@ abbrev pub Closes : List Open → List Open → Type 0
 Closes old new = (n : ℕ) × (new ≡ drop n old)
 
 -- what becomes of open texts where no byte is lent: they stay; the innermost, of which nothing is left, is closed, and perhaps others around
--- it; what a formal stands for is opened, whose name stands at the front, and the text goes on behind that name; or the body of the macro
--- is opened whose usage stands there, with as many actuals as that has formals, in the scope of the innermost text, which goes on behind
+-- it; what a formal stands for is opened, whose name stands at the front, and the text goes on after that name; or the body of the macro
+-- is opened whose usage stands there, with as many actuals as that has formals, in the scope of the innermost text, which goes on after
 -- the usage (IEEE 1364-2001, `define`; this project's profile)
 pub data Turned (texts : Texts) (old new : List Open) : Type 0 where
   Stays : new ≡ old → Turned texts old new
@@ -35,12 +35,12 @@ pub data Turned (texts : Texts) (old new : List Open) : Type 0 where
   OpensBody : (at len id following : ℕ) (parts : List Part) → HasFront texts old at (Usage len) → IsUsed texts old (front_name texts old len) id → length parts ≡ length (formals_of (macro_at texts.macros id))
       → new ≡ open_body texts id parts (front_scope old) ∷ moved_to following old → Turned texts old new
 
--- where the open texts stand behind what a step lends
+-- where the open texts stand after what a step lends
 abbrev pub after_lent : List Open → CursorStep → List Open
 after_lent opens (Lends place) = moved_to place.end opens
 after_lent opens Silent = opens
 after_lent opens (Refused fault) = opens
 
--- what a step lends, and what it opens or closes behind that
+-- what a step lends, and what it opens or closes after that
 abbrev pub TurnsOver : Texts → List Open → CursorStep → List Open → Type 0
 TurnsOver texts old step new = Turned texts (after_lent old step) new

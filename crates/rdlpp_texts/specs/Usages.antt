@@ -15,7 +15,7 @@ use Rattle.rdlpp_texts.specs.Scopes.{front_scope}
 use Rattle.rdlpp_texts.specs.declared.step.CursorStep.{CursorStep}
 use Rattle.rdlpp_texts.specs.declared.step.CursorStep.TheVariants.{Lends, Silent, Refused}
 
--- the name of a usage of so many bytes at the front of the innermost open text: what stands behind its backquote (source: IEEE
+-- the name of a usage of so many bytes at the front of the innermost open text: what stands after its backquote (source: IEEE
 -- 1364-2001, usages of macros)
 unfoldable pub front_name : Texts → List Open → ℕ → List ℕ
 front_name texts [] len = []

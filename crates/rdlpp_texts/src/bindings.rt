@@ -37,7 +37,7 @@ struct Pushed {
     to: usize,
 }
 
-/// Binds the call of a macro with so many formals: the text between two places stands behind the macro's name. Appends where
+/// Binds the call of a macro with so many formals: the text between two places stands after the macro's name. Appends where
 /// each actual stands, as [`bind_parts`] does, and answers the place after the `)` of the call (IEEE 1364-2001, `define`;
 /// what a call may hold is this project's profile). There must be room for so many ranges.
 ///

@@ -272,9 +272,9 @@ impl Cursors {
     /// One step of the innermost text, by what stands at its front. `arguments` is what is kept of the call in the source.
     ///
     /// It lends the longest run of bytes that are copied, in one piece as they lie. It opens the actual of a formal, its default
-    /// where the actual is empty, or the body of a macro, and goes on behind the name or the call. Or it closes a text of which
+    /// where the actual is empty, or the body of a macro, and goes on after the name or the call. Or it closes a text of which
     /// nothing is left, and those around it of which nothing is left either, but for the outermost. Where it lends a run, what
-    /// stands behind that is opened in the same step, or a text that ends there is closed while others are open around it.
+    /// stands after that is opened in the same step, or a text that ends there is closed while others are open around it.
     pub fn step(&mut self, table: &Table, arguments: &[u8]) -> CursorStep
         requires some { 0 < length self.old.opens }
         requires sound { AreSound (texts_of table.now.macros arguments.now) self.old.opens }

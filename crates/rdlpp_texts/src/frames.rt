@@ -16,7 +16,7 @@ const CLOSED: Frame = Frame {
     bounds: NO_BOUNDS,
 };
 
-// Puts closed frames behind those that are there, up to `count` frames.
+// Puts closed frames after those that are there, up to `count` frames.
 pub(crate) fn push_closed(frames: &mut Vec<Frame>, count: usize)
     requires more { vec_len frames.old ≤ count }
     requires reserved { count ≤ vec_capacity frames.old }

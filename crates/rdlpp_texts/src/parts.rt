@@ -38,7 +38,7 @@ impl Part {
     }
 }
 
-/// How many bytes of a text stand up to and with the `(` of a call, behind white space, line ends and comments; none where
+/// How many bytes of a text stand up to and with the `(` of a call, after white space, line ends and comments; none where
 /// anything else stands before it, or where the text ends (this project's profile).
 pub fn call_start(text: &[u8]) -> Option<usize>
     ensures value { result ≡ opener_from 0 (body_tokens text.now) }

@@ -212,7 +212,7 @@ fn is_body_of(frame: &Frame, id: MacroId) -> bool
     }
 }
 
-// The scope in which the call of a frame's text is written; the source, behind which nothing is sought, for an actual.
+// The scope in which the call of a frame's text is written; the source, after which nothing is sought, for an actual.
 fn outer_of(frame: &Frame) -> usize
     ensures { result ≡ outer_of frame.now }
 {

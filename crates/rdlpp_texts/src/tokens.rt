@@ -31,7 +31,7 @@ pub enum CallRole {
     Text,
 }
 
-// A token of a text: its role, how many bytes it has, and where the text stands behind it.
+// A token of a text: its role, how many bytes it has, and where the text stands after it.
 #[derive(Clone, Copy)]
 pub(crate) struct CallToken {
     pub(crate) role: CallRole,
@@ -121,7 +121,7 @@ pub fn role_of(kind: Kind, first: u8) -> CallRole
     }
 }
 
-/// How many openers are open behind a token, where so many are in front of it. `level` is less than
+/// How many openers are open after a token, where so many are in front of it. `level` is less than
 /// `usize::MAX`.
 #[tactic(auto, unfolding(crate::specs::CallTokens::role_meant, rdlpp_meaning::specs::Actuals::level_after))]
 pub fn level_after(role: CallRole, level: usize) -> usize

@@ -42,13 +42,13 @@ around_of unread f = record { most = f.line_bytes; opened = f.open_token_line; l
 is_around : {R : Type 0} (unread : R → List ℕ) (f : BufferView R) → EndsHeld f → IsAround (held_of f) (around_of unread f)
 is_around unread f ends = record { ends = ends_line unread f ends }
 
--- the tokens behind used bytes
+-- the tokens after used bytes
 after_used : {R : Type 0} (unread : R → List ℕ) (f : BufferView R) (len : ℕ) (next : Mode)
     → tokens_after (around_of unread f) f.mode (held_of f) len next ≡ tokens_left unread (used_buffer f len next)
 unfolding tokens_left rest_of ahead_of held_of entered_mode
 after_used unread f len next = rw (drop-drop len f.at (take f.accepted f.window)) refl
 
--- what is held behind used bytes
+-- what is held after used bytes
 after_held : {R : Type 0} (f : BufferView R) (len : ℕ) (next : Mode) → held_of (used_buffer f len next) ≡ drop len (held_of f)
 unfolding held_of entered_mode
 after_held f len next = sym (drop-drop len f.at (take f.accepted f.window))
@@ -58,7 +58,7 @@ after_rest : {R : Type 0} (unread : R → List ℕ) (f : BufferView R) (len : �
 unfolding rest_of ahead_of entered_mode
 after_rest unread f len next = refl
 
--- what isn't used behind used bytes
+-- what isn't used after used bytes
 less_unused : {R : Type 0} (f : BufferView R) (len : ℕ) (next : Mode) → len ≤ length (held_of f)
     → unused_of (used_buffer f len next) + length (take len (held_of f)) ≡ unused_of f
 unfolding unused_of entered_mode held_of
@@ -70,7 +70,7 @@ unfolding entered_mode
 used_moves has_known_texts exact unread f len next inside =
     moves-past has_known_texts exact unread (take len (held_of f)) f (used_buffer f len next) refl (ap (λ n. f.at + n) (sym (length-take-le len (held_of f) inside))) refl
 
--- the text behind them
+-- the text after them
 pub used_text : {R : Type 0} (unread : R → List ℕ) (f : BufferView R) (len : ℕ) (next : Mode) → text_left unread f ≡ take len (held_of f) ++ text_left unread (used_buffer f len next)
 used_text unread f len next = text-past unread f (used_buffer f len next) len (after_held f len next) (after_rest unread f len next)
 
@@ -161,7 +161,7 @@ tells_told has_known_texts unread at room k u f g Closed a =
 tells_told has_known_texts unread at room k u f g Failed a = record { to = a.to; goes_on = goes_on_told has_known_texts unread at a.to room k u f g a.goes_on }
 tells_told has_known_texts unread at room k u f g _ a = λ t. a tt
 
--- bytes that were used, and bytes behind them
+-- bytes that were used, and bytes after them
 pub used_twice : {R : Type 0} (f g : BufferView R) (x y : List ℕ) (include_stack : List (File R)) → with_used g y (with_used f x include_stack) ≡ with_used g (x ++ y) include_stack
 used_twice f g x y [] = refl
 used_twice f g x y (s ∷ outer) = rw (only_blanks-append s.blanks x y, ends_mid_line_after-append s.ends_mid_line x y) refl
@@ -313,7 +313,7 @@ taken {R = R} g first now old mid new most store after at to r only room t =
       call = r.call;
     }
 
--- an answer behind what was read
+-- an answer after what was read
 pub answered : {S R : Type 0} (g : Ghosts S R) (first now : S) (old mid : FilesView R) (new : List (File R)) (most : ℕ) (store : StoreView) (at : CallState) (used : List ℕ) (result : CallRead)
     → IsReading g false first now old mid most store at
     → new ≡ with_used (inner_buffer new) used mid.include_stack → unused_of (inner_buffer new) + length used ≡ unused_of (inner_buffer mid.include_stack)
@@ -380,7 +380,7 @@ answered_unfilled g first now old mid new most store at result r only unused mov
     (λ exact t. sym (text exact (r.call.has_known_texts t))) has_known_texts
     (reads_nothing (g.has_known_texts first) g.unread at (most - length store.bytes) (inner_buffer mid.include_stack) (inner_buffer new.include_stack) (omega (arith, unused)))
 
--- a read failed behind what was read
+-- a read failed after what was read
 pub answered_failed : {S R : Type 0} (g : Ghosts S R) (first now : S) (old new : FilesView R) (most : ℕ) (store : StoreView) (at : CallState)
     → IsReading g true first now old new most store at
     → ReadsCall (g.has_known_texts first) g.unread Before most store.bytes Failed old.include_stack new.include_stack

@@ -39,7 +39,7 @@ use Rattle.rdlpp_meaning.proofs.LiveText.{source_role_directive, source_role_tex
 abbrev pub own_token : Token → List ℕ → ℕ → SourceToken
 own_token t held line = record { sort = Ordinary t.kind; bytes = take t.len held; line = line }
 
--- the first token of held bytes is read by its role, and then what stands behind it
+-- the first token of held bytes is read by its role, and then what stands after it
 pub record IsFirst (at : CallState) (m : Mode) (room : ℕ) (held : List ℕ) (t : Token) (r : Role) (a : Around) : Type 0 where
   pub reads : read at (is_open m) room (tokens_at a m held)
       ≡ read_by (turn at r (nat_le t.len room)) (own_token t held a.line) (tokens_after a m held t.len t.next_mode)
@@ -109,13 +109,13 @@ onto_bytes : (part : List ℕ) (line : ℕ) (ts : List SourceToken) → IsHead t
 unfolding onto_tokens with_part
 onto_bytes part line ts h = grind (arith, append_assoc)
 
--- a part behind the `(`
+-- a part after the `(`
 part_read : (k room line : ℕ) (p : Bool) (part : List ℕ) (t : SourceToken) (ts us : List SourceToken) → IsHead ts → t.bytes ≡ part
     → read (Inside k) p room (onto_tokens part line ts) ≡ read_by (turn_fitting (nat_le (length part) room) Keeps) t us (read (Inside k) true (room - length part) ts)
 unfolding onto_tokens
 part_read k room line p part t ts us h own = grind (arith, part_inside, nat_le, part_by_turn)
 
--- a string or comment of which a part is held, behind the `(`
+-- a string or comment of which a part is held, after the `(`
 open_inside : (k : ℕ) (m : Mode) (room : ℕ) (held : List ℕ) (t : Token) (r : Role) (a : Around) → t.len ≤ length held
     → ((fits : Bool) → turn_inside r k fits ≡ turn_fitting fits Keeps) → level_after r k ≡ k → kept_size r t.len ≡ t.len → is_open t.next_mode ≡ true
     → IsHead (tokens_after a m held t.len t.next_mode)
@@ -179,7 +179,7 @@ comment_slash bs t (AtBack h e) is = let i = ap (λ (u : Token). u.kind) e in ab
 comment_slash bs t (AtBare h g e) is = let i = ap (λ (u : Token). u.kind) e in absurd (cc)
 comment_slash bs t (AtPlain h q) is = absurd (false≢true (sym (ap is_plain_kind is) ∙ h))
 
--- all of held bytes, and nothing behind them
+-- all of held bytes, and nothing after them
 all_held : (held : List ℕ) (n : ℕ) → n ≡ length held → take n held ≡ held
 all_held held n e = take_all n held (omega (arith, e))
 
@@ -192,7 +192,7 @@ whole_part : (m next : Mode) (held : List ℕ) (n : ℕ) (a : Around) (mode : Mo
     → tokens_at a m held ≡ onto_tokens (take n held) a.line (tokens_after a m held n mode)
 whole_part m next held n a mode len is e = grind (arith, all_held, none_after)
 
--- a string that `<%` cuts, in front of what remains behind its part
+-- a string that `<%` cuts, in front of what remains after its part
 cut_part : (m : Mode) (held : List ℕ) (a : Around) → IsAround held a → 0 < length held → (token_of m held).kind ≡ Str → (token_of m held).next_mode ≡ InStr → (token_of m held).len < length held → begins_perl (drop (token_of m held).len held) ≡ true
     → tokens_at a m held ≡ onto_tokens (take (token_of m held).len held) a.line (tokens_after a m held (token_of m held).len (token_of m held).next_mode)
 unfolding onto_tokens with_part line_with

@@ -48,7 +48,7 @@ use Rattle.rdlpp_usages.specs.declared.action.CallAction.TheVariants.{Closes as 
 use Rattle.rdlpp_usages.specs.declared.action.Consumed.{Consumed}
 use Rattle.rdlpp_usages.proofs.Halts.{IsFirst, directive_reads, name_first, own_token, perl_reads, token_first}
 
--- What is answered at a token behind the `(`, by its role.
+-- What is answered at a token after the `(`, by its role.
 
 -- the `)` of a call
 pub closing : (r : CallRole) (k : ℕ) (fits : Bool) → ends_call (role_meant r) k ≡ true → turn (Inside k) (role_meant r) fits ≡ Closes
@@ -187,7 +187,7 @@ unfolding turn turn_before call_state_after call_state_after_lead
 text_refused Before fits true is e = absurd (cc)
 text_refused _ fits b is e = absurd (cc)
 
--- behind what is used before the `(` no string is open
+-- after what is used before the `(` no string is open
 no_string : (at : CallState) (m : Mode) (held : List ℕ) (fits b : Bool) (own : List ℕ) → Seam held [] (token_of m held) (token_of m (held ++ []))
     → call_state_after at (kind_role (token_of m held).kind own) ≡ Before → turn at (kind_role (token_of m held).kind own) fits ≡ cond b Keeps Passes → (token_of m held).next_mode ≢ InStr
 unfolding kind_role
@@ -264,14 +264,14 @@ kept_kind Perl a b = absurd (a refl)
 kept_kind Back a b = absurd (b refl)
 kept_kind k a b = refl
 
--- Words, blanks and commas behind the `(` of a call are used at once.
+-- Words, blanks and commas after the `(` of a call are used at once.
 
 -- where a test passes, another one passes as long at least
 longer : (p q : ℕ → Bool) → ((b : ℕ) → p b ≡ true → q b ≡ true) → (bs : List ℕ) → prefix_len p bs ≤ prefix_len q bs
 longer p q h [] = omega arith
 longer p q h (b ∷ bs) = grind (arith, cases_Bool, (longer p q h bs))
 
--- it passes behind its first bytes for as long as it did
+-- it passes after its first bytes for as long as it did
 following : (p : ℕ → Bool) (m : ℕ) (bs : List ℕ) → m ≤ prefix_len p bs → prefix_len p (drop m bs) + m ≡ prefix_len p bs
 following p zero bs inside = omega arith
 following p (suc m) [] inside = absurd (omega (arith, inside))
@@ -300,7 +300,7 @@ no_line_ends (suc m) bs inside =
     ∙ line_ends-miss bs m (omega (arith, inside, all)) (no_line_end (get_or bs m 0) (prefix_len_passes is_plain_argument bs m 0 (omega (arith, inside))))
     ∙ no_line_ends m bs (omega (arith, inside))
 
--- a kind of token that is kept behind the `(` and neither opens nor closes anything there
+-- a kind of token that is kept after the `(` and neither opens nor closes anything there
 record IsPlainArgumentKind (kind : Kind) : Type 0 where
   kept : is_kept_kind kind ≡ true
   turns : (own : List ℕ) (k : ℕ) (fits : Bool) → turn_inside (kind_role kind own) k fits ≡ turn_fitting fits Keeps
@@ -327,7 +327,7 @@ plain_argument_other : IsPlainArgumentKind Other
 unfolding is_kept_kind kind_role turn_inside kept_size level_after
 plain_argument_other = record { kept = refl; turns = λ own k fits. refl; size = λ own n. refl; level = λ own k. refl }
 
--- the first token of such bytes is one of them, and plain text stands behind it
+-- the first token of such bytes is one of them, and plain text stands after it
 record IsPlainArgumentToken (held : List ℕ) (t : Token) : Type 0 where
   size : t.len ≤ prefix_len is_plain_argument held
   next : t.next_mode ≡ Plain
@@ -404,7 +404,7 @@ first_used k room held some plain_argument fits =
     (λ before (no : Plain ≡ InStr). (cc)) refl
     (keeps_step r k room t k kept fits (token_of-part Plain held some).not_empty (sym (plain_argument.kind.level own k))))
 
--- the tokens behind two parts of held bytes, the first of which has no line end
+-- the tokens after two parts of held bytes, the first of which has no line end
 after_both : (a : Around) (held : List ℕ) (m n : ℕ) → line_ends (take m held) ≡ 0
     → tokens_after (record { most = a.most; opened = opening Plain a.opened a.line; line = a.line + line_ends (take m held); left = a.left; rest = a.rest }) Plain (drop m held) n Plain
     ≡ tokens_after a Plain held (m + n) Plain
@@ -485,7 +485,7 @@ plain_argument_run (suc fuel) k room held most some fits =
           (no_line_ends m held size) (omega (arith, same, all)) (omega (arith, same, fits)))
     ]
 
--- so they are behind a call's `(`
+-- so they are after a call's `(`
 pub plain_argument_used : (k room n : ℕ) (held : List ℕ) → n ≡ prefix_len is_plain_argument held → (n ≡ 0 → ⊥) → n ≤ room
     → IsConsumed (Inside k) Plain room held (record { len = n; next_mode = Plain; call_state = InsideCall k; is_kept = true })
 plain_argument_used k room n held is some fits =
@@ -515,7 +515,7 @@ unfolding turn_fitting is_read_fault
 fitting true t h = h
 fitting false t h = refl
 
--- behind the `(`
+-- after the `(`
 inside : (r : Role) (k : ℕ) (fits : Bool) → RefusesCall (turn_inside r k fits)
 unfolding turn_inside is_read_fault
 inside End zero fits = tt

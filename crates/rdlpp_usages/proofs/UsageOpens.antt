@@ -56,7 +56,7 @@ use Rattle.rdlpp_usages.specs.declared.reading.CallRead.{CallRead}
 use Rattle.rdlpp_usages.specs.declared.reading.CallRead.TheVariants as call
 use Rattle.rdlpp_usages.proofs.CallLoop.{used_twice}
 
--- What remains at a usage in a source: its open body and then what remains behind the usage, or the fault of its call.
+-- What remains at a usage in a source: its open body and then what remains after the usage, or the fault of its call.
 
 -- the bytes of tokens up to those that remain
 bytes_before : (ts following : List SourceToken) (n : ℕ) (used : List ℕ) → drop n ts ≡ following → bytes_of ts ≡ used ++ bytes_of following → bytes_of (take n ts) ≡ used
@@ -67,7 +67,7 @@ bytes_before ts following n used rest bytes =
     ∙ ap bytes_of (take-append-drop n ts)
     ∙ bytes)
 
--- whether only blanks stand before what is behind a usage and its call, on its physical line
+-- whether only blanks stand before what is after a usage and its call, on its physical line
 blanks_after : (first : Bool) (name : List ℕ) (line : ℕ) (ts following : List SourceToken) (n : ℕ) (used : List ℕ) → drop n ts ≡ following → bytes_of ts ≡ used ++ bytes_of following
     → only_blanks first (bytes_of (take (suc n) (usage_token name line ∷ ts))) ≡ only_blanks (only_blanks first (96 ∷ name)) used
 blanks_after first name line ts following n used rest bytes =
@@ -88,7 +88,7 @@ all_resumed_on : (rules : Rules) (ws : List Waiting) (os : List Progress) (first
 unfolding all_resumed
 all_resumed_on rules ws os first flag ts following s p e = grind (arith, goes_on-assoc)
 
--- a source of which a usage and its call were used: what is behind them
+-- a source of which a usage and its call were used: what is after them
 pub record IsAfter {R : Type 0} (unread : R → List ℕ) (f new : File R) (len : ℕ) (used : List ℕ) : Type 0 where
   pub blanks : new.blanks ≡ only_blanks (only_blanks f.blanks (take len (held_of f.buffer))) used
   pub bytes : bytes_of (tokens_left unread (consumed_file len 0 f).buffer) ≡ used ++ bytes_of (tokens_left unread new.buffer)
@@ -114,7 +114,7 @@ module _ {R : Type 0} (rules : Rules) (unread : R → List ℕ) (ws : List Waiti
       → source_left rules unread ws (Live os) f s ≡ leaves (fails (fault_at kind at word s)) s
   call_refused holds plain usage m fs kind word at found formals e = grind (arith, token_refused, usage_with_list)
 
-  -- a call that is bound opens its body, and the source goes on behind it
+  -- a call that is bound opens its body, and the source goes on after it
   pub call_opens : HoldsFront f.buffer → f.buffer.mode ≡ Plain → IsUsage (held_of f.buffer) len
       → (d : ℕ) (texts : Texts) (id : ℕ) (fs : List Formal) (ranges : List Range) (new : File R) (used : List ℕ)
       → rules.depth ≡ suc d → macro_named s.macros (usage_name (held_of f.buffer) len) ≡ Some (macro_at texts.macros id)
@@ -141,7 +141,7 @@ module _ {R : Type 0} (rules : Rules) (unread : R → List ℕ) (ws : List Waiti
       (resumed_open rules os f.blanks name line ts s d texts id fs ranges rest b usage.free depth found formals)
       ∙ ap (λ (x : Bool). goes_on opened (λ after. all_resumed rules ws (Live os) x rest after)) same
 
-  -- a usage of a macro without a list opens its body, and the source goes on behind the name
+  -- a usage of a macro without a list opens its body, and the source goes on after the name
   pub body_opens : HoldsFront f.buffer → f.buffer.mode ≡ Plain → IsUsage (held_of f.buffer) len
       → (d : ℕ) (texts : Texts) (id : ℕ)
       → rules.depth ≡ suc d → macro_named s.macros (usage_name (held_of f.buffer) len) ≡ Some (macro_at texts.macros id)
@@ -270,19 +270,19 @@ module _ {R : Type 0} (rules : Rules) (unread : R → List ℕ) (ws : List Waiti
 abbrev pub seen_of : CursorsView → StoreView → ExpansionView
 seen_of c arguments = record { opens = c.opens; arguments = arguments.bytes; line = c.line; depth = c.depth; most = arguments.most }
 
--- nothing has changed behind a fault, where the kept bytes stay
+-- nothing has changed after a fault, where the kept bytes stay
 stays_open : (step : CursorStep) (c now : CursorsView) (arguments : StoreView) → StaysRefused c step now → StaysAt (seen_of c arguments) step (seen_of now arguments)
 unfolding StaysRefused StaysAt
 stays_open (Fault fault) c now arguments stays = ap (λ (v : CursorsView). seen_of v arguments) stays
 stays_open _ c now arguments stays = tt
 
--- and a text stays open behind bytes that are lent
+-- and a text stays open after bytes that are lent
 lent_open : (step : CursorStep) (c now : CursorsView) (arguments : StoreView) → KeepsOpen step now.opens → StaysLent (seen_of c arguments) step (seen_of now arguments)
 unfolding StaysLent
 lent_open (Lends place) c now arguments some = (some, refl)
 lent_open _ c now arguments some = tt
 
--- a step behind which the kept bytes stay
+-- a step after which the kept bytes stay
 pub step_kept : (macros : List Macro) (old : ExpansionView) (c now : CursorsView) (arguments : StoreView) (bytes : List ℕ) (step : CursorStep) → seen_of c arguments ≡ old → bytes ≡ arguments.bytes
     → TakesStep (texts_of macros bytes) c step now → (now.opens ≡ [] → arguments.bytes ≡ []) → TakesUsageStep macros old step (seen_of now arguments)
 step_kept macros old c now arguments bytes step is same takes lets_go =
@@ -303,7 +303,7 @@ step_kept macros old c now arguments bytes step is same takes lets_go =
       turns = t.turns;
     })
 
--- one that closes the last text, behind which nothing is kept
+-- one that closes the last text, after which nothing is kept
 pub step_last : (macros : List Macro) (old : ExpansionView) (c now : CursorsView) (arguments rest : StoreView) (bytes : List ℕ) (step : CursorStep) → seen_of c arguments ≡ old → bytes ≡ arguments.bytes
     → TakesStep (texts_of macros bytes) c step now → step ≡ Silent → (length now.opens == 0) ≡ true → rest ≡ record arguments { bytes = [] }
     → TakesUsageStep macros old step (seen_of now rest)
@@ -333,7 +333,7 @@ step_last macros old c now arguments rest bytes step is same takes silent empty 
     none_open [] e = refl
     none_open (x ∷ below) e = absurd (let n = eqb-true (length (x ∷ below)) 0 e in omega (arith, n))
 
--- behind bytes that are lent, and behind a fault, a text is open
+-- after bytes that are lent, and after a fault, a text is open
 pub still_open : (step : CursorStep) (old : List Open) (c now : CursorsView) (bytes : List ℕ) → (step ≡ Silent → ⊥) → KeepsOpen step now.opens → StaysRefused c step now
     → c.opens ≡ old → 0 < length old → now.opens ≡ [] → bytes ≡ []
 unfolding StaysRefused
@@ -467,12 +467,12 @@ is_list (Some fs) e = refl
 pub opened_line : (opening : Opening) (now line old : ℕ) → now ≡ (if is_opened opening then line else old) → opening ≡ Opened → now ≡ line
 opened_line opening now line old e o = e ∙ ap (λ (x : Opening). if is_opened x then line else old) o
 
--- the window behind the bytes of a usage
+-- the window after the bytes of a usage
 name_moves : {R : Type 0} (has_known_texts exact : Type 0) (unread : R → List ℕ) (f : File R) (len : ℕ) → len ≤ length (held_of f.buffer) → MovesOver has_known_texts exact unread (take len (held_of f.buffer)) f.buffer (consumed_file len 0 f).buffer
 name_moves has_known_texts exact unread f len inside =
     moves-past has_known_texts exact unread (take len (held_of f.buffer)) f.buffer (consumed_file len 0 f).buffer refl (ap (λ (n : ℕ). f.buffer.at + n) (sym (length-take-le len (held_of f.buffer) inside))) refl
 
--- what is held behind them
+-- what is held after them
 name_held : {R : Type 0} (f : File R) (len : ℕ) → held_of (consumed_file len 0 f).buffer ≡ drop len (held_of f.buffer)
 unfolding held_of
 name_held f len = sym (drop-drop len f.buffer.at (take f.buffer.accepted f.buffer.window))
@@ -482,7 +482,7 @@ name_rest : {R : Type 0} (unread : R → List ℕ) (f : File R) (len : ℕ) → 
 unfolding rest_of ahead_of
 name_rest unread f len = refl
 
--- the text behind them
+-- the text after them
 name_text : {R : Type 0} (unread : R → List ℕ) (f : File R) (len : ℕ) → text_left unread f.buffer ≡ take len (held_of f.buffer) ++ text_left unread (consumed_file len 0 f).buffer
 name_text unread f len = text-past unread f.buffer (consumed_file len 0 f).buffer len (name_held f len) (name_rest unread f len)
 

@@ -33,7 +33,7 @@ level_in scan.Before = 0
 level_in (scan.Inside level) = level
 
 -- what held bytes stand in: the most bytes of a line, the line on which an open string or comment began, the
--- line of the first held byte, how many bytes the source may still have behind them, and the text behind them
+-- line of the first held byte, how many bytes the source may still have after them, and the text after them
 pub record Around : Type 0 where
   pub most : ℕ
   pub opened : ℕ
@@ -49,7 +49,7 @@ pub record IsAround (held : List ℕ) (a : Around) : Type 0 where
 abbrev pub tokens_at : Around → Mode → List ℕ → List SourceToken
 tokens_at a mode held = remaining_tokens a.most mode a.opened a.line held a.left a.rest
 
--- the tokens behind the first `len` of held bytes, where a text stands in a mode
+-- the tokens after the first `len` of held bytes, where a text stands in a mode
 abbrev pub tokens_after : Around → Mode → List ℕ → ℕ → Mode → List SourceToken
 tokens_after a mode held len next =
     remaining_tokens a.most next (opening mode a.opened a.line) (a.line + line_ends (take len held)) (drop len held) a.left a.rest
@@ -79,7 +79,7 @@ Answers at r room t Closes = turn at r (nat_le t.len room) ≡ scan.Closes
 Answers at r room t (Refused f) = turn at r (nat_le t.len room) ≡ scan.TurnFault f
 Answers at r room t Perl = ⊥
 
--- held bytes are used, and kept or not, and the reading of the call goes on behind them
+-- held bytes are used, and kept or not, and the reading of the call goes on after them
 pub record IsConsumed (at : scan.CallState) (mode : Mode) (room : ℕ) (held : List ℕ) (u : Consumed) : Type 0 where
   pub some : 0 < u.len
   pub inside : u.len ≤ length held

@@ -1,4 +1,4 @@
--- What reading a call did: the answer, the kept bytes, and the innermost source behind it.
+-- What reading a call did: the answer, the kept bytes, and the innermost source after it.
 -- A definition that names no source is this project's own.
 use Rattle.std.specs.Prelude.{◌≡◌, ◌≢◌, ℕ, ◌+◌, ◌^◌, ◌<◌, ◌≤◌, Bool, true, false, All, List, [], ◌++◌, length, take, drop}
 use Rattle.rdlpp_scan.specs.declared.token.Mode.{Mode}
@@ -26,7 +26,7 @@ use Rattle.rdlpp_usages.specs.declared.reading.CallRead.TheVariants.{Closed, Ref
 use Rattle.rdlpp_usages.specs.declared.reading.Next.{Next}
 use Rattle.rdlpp_usages.specs.declared.reading.Next.TheVariants.{Goes, Ends}
 
--- a source of which the first held bytes are used, and whose text stands in a mode behind them
+-- a source of which the first held bytes are used, and whose text stands in a mode after them
 abbrev pub used_buffer : {R : Type 0} → BufferView R → ℕ → Mode → BufferView R
 used_buffer f len next = record (entered_mode f next) { at = f.at + len; line = f.line + line_ends (take len (held_of f)) }
 
@@ -60,7 +60,7 @@ is_failed_call Failed = true
 abbrev pub IsExactCall : CallRead → Type 0
 IsExactCall result = (line : ℕ) → result ≡ Broken LineTooLong line → ⊥
 
--- what was kept of a call so far: that of all its bytes that were used, but for a `)` behind them
+-- what was kept of a call so far: that of all its bytes that were used, but for a `)` after them
 pub record ReadsUpTo {R : Type 0} (has_known_texts : Type 0) (unread : R → List ℕ) (at : CallState) (room : ℕ) (kept : List ℕ) (old new : BufferView R) : Type 0 where
   pub to : CallState
   pub used : List ℕ
@@ -111,7 +111,7 @@ IsEndOfText at room f (Broken kind line) = read at (is_open f.mode) room (ended_
 IsEndOfText at room f Failed = ⊥
 
 -- a call that was read is that of the definition: the parts of its kept bytes are its parts, but for the lines of tokens that
--- aren't broken, none of their tokens is dropped, and behind it are the tokens that remain (source: this project's profile)
+-- aren't broken, none of their tokens is dropped, and after it are the tokens that remain (source: this project's profile)
 pub record IsCallOf (room : ℕ) (ts : List SourceToken) (bytes : List ℕ) (following : List SourceToken) : Type 0 where
   pub used : ℕ
   pub call : map_call unlined (call_of token_role kept_token room (leading ts)) ≡ call_of_scan token_role 0 (scan.Closed (body_tokens bytes) used)

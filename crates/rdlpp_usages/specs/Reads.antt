@@ -23,7 +23,7 @@ pub record GoesOn {R : Type 0} (has_known_texts : Type 0) (unread : R → List �
   pub bytes : has_known_texts
       → bytes_of (tokens_left unread old) ≡ used ++ bytes_of (tokens_left unread new)
 
--- the call was closed: it keeps these bytes, and what remains of the source are the tokens behind its `)`
+-- the call was closed: it keeps these bytes, and what remains of the source are the tokens after its `)`
 pub record Closes {R : Type 0} (has_known_texts : Type 0) (unread : R → List ℕ) (at : CallState) (room : ℕ) (kept used : List ℕ) (old new : BufferView R) : Type 0 where
   pub unused : unused_of new + length used ≡ unused_of old
   pub fits : length kept ≤ room

@@ -1,4 +1,4 @@
--- What a usage in a source comes to: open texts, and then what remains of the source behind it, or a fault.
+-- What a usage in a source comes to: open texts, and then what remains of the source after it, or a fault.
 -- A definition that names no source is this project's own.
 use Rattle.std.specs.Prelude.{◌≡◌, ℕ, ◌+◌, ◌*◌, ◌<◌, ◌≤◌, Bool, true, false, List, [], ◌∷◌, ◌++◌, ◌⊎◌, length, map, Option, None, Some, if◌then◌else◌, ◌^◌}
 use Rattle.rdlpp_scan.specs.declared.token.Mode.TheVariants.{Plain}
@@ -71,7 +71,7 @@ inner_left rules unread ws os (f ∷ outer) s = source_left rules unread ws (Liv
 unfoldable pub texts_left : Rules → State → List Macro → ExpansionView → Passage
 texts_left rules s macros e = leaves (open_left rules s e.line e.depth (texts_of macros e.arguments) e.opens) s
 
--- what a usage of a name at a line comes to in live text: its open texts and then what remains behind it, or a fault (IEEE 1364-2001, `define`)
+-- what a usage of a name at a line comes to in live text: its open texts and then what remains after it, or a fault (IEEE 1364-2001, `define`)
 abbrev pub TellsUsage : {R : Type 0} → Rules → State → (R → List ℕ) → List Waiting → List Progress → List Macro → ℕ → List ℕ → Opening → ExpansionView → List (File R) → List (File R) → Type 0
 TellsUsage rules s unread ws os macros line name Opened e old new =
     inner_left rules unread ws os old s ≡ goes_on (texts_left rules s macros e) (λ after. inner_left rules unread ws os new after)
@@ -81,7 +81,7 @@ TellsUsage rules s unread ws os macros line name (Broken kind own) e old new =
     inner_left rules unread ws os old s ≡ leaves (fails (fault_at kind own [] s)) s
 TellsUsage rules s unread ws os macros line name Failed e old new = Unit
 
--- whether texts are open behind an answer
+-- whether texts are open after an answer
 abbrev pub is_opened : Opening → Bool
 is_opened Opened = true
 is_opened (Refused kind) = false
@@ -122,14 +122,14 @@ pub record OpensCall {R : Type 0} (has_known_texts : Type 0) (unread : R → Lis
   pub bound : (rules : Rules) (line : ℕ) (name : List ℕ) (fs : List Formal) → rules.argument_bytes ≡ most → (macro_at macros id).formals ≡ Some fs → has_known_texts
       → OpensBound rules line name (tokens_left unread old) (macro_at macros id) fs bytes ranges (tokens_left unread new)
 
--- what the call behind the name of a macro comes to, by the tokens that remain of the source in front of it and behind it (IEEE 1364-2001, `define`)
+-- what the call after the name of a macro comes to, by the tokens that remain of the source in front of it and after it (IEEE 1364-2001, `define`)
 abbrev pub TellsCallUsage : {R : Type 0} → Type 0 → (R → List ℕ) → ℕ → List Macro → ℕ → Opening → List Open → List ℕ → BufferView R → BufferView R → Type 0
 TellsCallUsage has_known_texts unread most macros id Opened opens bytes old new = OpensCall has_known_texts unread most macros id opens bytes old new
 TellsCallUsage has_known_texts unread most macros id (Refused kind) opens bytes old new = RefusesCall has_known_texts unread most macros id kind (λ name. name) (λ line. line) old
 TellsCallUsage has_known_texts unread most macros id (Broken kind own) opens bytes old new = RefusesCall has_known_texts unread most macros id kind (λ name. []) (λ line. own) old
 TellsCallUsage has_known_texts unread most macros id Failed opens bytes old new = Unit
 
--- bytes behind the name were used, and nothing else of the sources changed; its window moved on over its text, which is what was used
+-- bytes after the name were used, and nothing else of the sources changed; its window moved on over its text, which is what was used
 -- and what remains; where texts are open, so it is with the bytes of its tokens
 pub record UsesCall {R : Type 0} (has_known_texts : Type 0) (unread : R → List ℕ) (opening : Opening) (old new : List (File R)) : Type 0 where
   pub used : List ℕ
@@ -198,19 +198,19 @@ pub record StaysOpen (old new : ExpansionView) : Type 0 where
   pub most : new.most ≡ old.most
   pub arguments : (new.arguments ≡ old.arguments) ⊎ ((new.opens ≡ []) × (new.arguments ≡ []))
 
--- nothing has changed behind a fault
+-- nothing has changed after a fault
 unfoldable pub StaysAt : ExpansionView → CursorStep → ExpansionView → Type 0
 StaysAt old (Lends place) new = Unit
 StaysAt old Silent new = Unit
 StaysAt old (Fault fault) new = new ≡ old
 
--- behind bytes that are lent a text stays open, and the kept bytes stay
+-- after bytes that are lent a text stays open, and the kept bytes stay
 unfoldable pub StaysLent : ExpansionView → CursorStep → ExpansionView → Type 0
 StaysLent old (Lends place) new = (0 < length new.opens) × (new.arguments ≡ old.arguments)
 StaysLent old Silent new = Unit
 StaysLent old (Fault fault) new = Unit
 
--- a step over open texts, as it is of `Cursors`; and behind the last one that is closed nothing is kept of the call
+-- a step over open texts, as it is of `Cursors`; and after the last one that is closed nothing is kept of the call
 pub record TakesUsageStep (macros : List Macro) (old : ExpansionView) (result : CursorStep) (new : ExpansionView) : Type 0 where
   pub step : IsStep old.line old.depth (texts_of macros old.arguments) old.opens result new.opens
   pub sound : AreSound (texts_of macros new.arguments) new.opens

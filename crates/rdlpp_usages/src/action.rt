@@ -17,7 +17,7 @@ use rdlpp_texts::{CallRole, ends_call, level_after, role_of};
 pub(crate) enum CallState {
     // Before its `(`.
     Before,
-    // Behind it, at a level of further openers.
+    // After it, at a level of further openers.
     Inside(usize),
 }
 
@@ -26,9 +26,9 @@ pub(crate) enum CallState {
 pub(crate) struct Consumed {
     // How many bytes it has.
     pub(crate) len: usize,
-    // Where the text stands behind it.
+    // Where the text stands after it.
     pub(crate) next_mode: Mode,
-    // Where the call stands behind it.
+    // Where the call stands after it.
     pub(crate) call_state: CallState,
     // Whether its bytes are kept.
     pub(crate) is_kept: bool,
@@ -72,7 +72,7 @@ fn passes(token: Token, call_state: CallState) -> CallAction
     })
 }
 
-// What is done behind the `(`, at a level of further openers, with a token of a role.
+// What is done after the `(`, at a level of further openers, with a token of a role.
 fn inside_action(level: usize, room: usize, role: CallRole, token: Token) -> CallAction
     requires level { level + room ≤ usize.MAX }
     requires some { 0 < token.len }
@@ -151,7 +151,7 @@ fn plain_argument_bytes(text: &[u8]) -> usize
     text.iter().take_while(|b| is_plain_argument(**b)).count()
 }
 
-// The use of the plain argument bytes with which held bytes begin in plain text behind the `(`, if there are some and they fit.
+// The use of the plain argument bytes with which held bytes begin in plain text after the `(`, if there are some and they fit.
 fn plain_argument_use(
     call_state: CallState,
     mode: Mode,

@@ -149,7 +149,7 @@ impl Expansion {
         let _fits = self.arguments.bytes().len();
     }
 
-    /// Takes one step in the innermost text, as `Cursors::step` does. Behind the last open text nothing is
+    /// Takes one step in the innermost text, as `Cursors::step` does. After the last open text nothing is
     /// kept of the call.
     ///
     /// # Faults
@@ -172,10 +172,10 @@ impl Expansion {
 
     /// Opens the usage of `len` bytes that stands at the front of what is held of the innermost source:
     /// its backquote and the name of the macro `id`. Where that has a list of formals, its call is read
-    /// from the source, over any number of lines, and its arguments are bound. The source goes on behind
+    /// from the source, over any number of lines, and its arguments are bound. The source goes on after
     /// it. Nothing may be open.
     ///
-    /// Behind a usage that isn't opened no text is open, and the line is as it was; what was read of the source
+    /// After a usage that isn't opened no text is open, and the line is as it was; what was read of the source
     /// stays used, and what was kept of the call stays kept.
     ///
     /// # Rules
@@ -236,7 +236,7 @@ fn bind_kept(table: &Table, arguments: &ArgumentStore, texts: &mut Cursors, usag
     }
 }
 
-// Reads the call behind the name of a macro with a list from the innermost source, binds it, and opens the body.
+// Reads the call after the name of a macro with a list from the innermost source, binds it, and opens the body.
 fn open_call<S: Sources>(
     files: &mut Files<S::Reader>,
     sources: &mut S,

@@ -50,17 +50,17 @@ enum Next {
     Ends(CallRead),
 }
 
-/// Reads what stands behind the name of a macro with a list of formals, from the innermost source, over
-/// any number of its lines: behind white space, line ends and comments a `(`, and all up to its `)`,
+/// Reads what stands after the name of a macro with a list of formals, from the innermost source, over
+/// any number of its lines: after white space, line ends and comments a `(`, and all up to its `)`,
 /// which stands outside strings, comments and further openers. What is kept are the bytes between the
-/// two but those of `//` comments; the store has them, and nothing of what it had before. Behind a call
-/// that is closed, the source goes on behind its `)`.
+/// two but those of `//` comments; the store has them, and nothing of what it had before. After a call
+/// that is closed, the source goes on after its `)`.
 ///
 /// The sources are asked to read only where all held bytes are used. Takes no memory.
 ///
 /// # Rules
 ///
-/// A directive, or the end of the text, ends the call: before the `(` its arguments are missing, behind
+/// A directive, or the end of the text, ends the call: before the `(` its arguments are missing, after
 /// it they aren't closed. For each token its bytes count first: kept bytes that pass the room of the
 /// store are refused before a broken token's own fault. Where a read failed nothing is lost: what was
 /// kept so far and what remains come to the same call (this project's profile).
@@ -83,7 +83,7 @@ pub fn read_call<S: Sources>(
     read_tokens(files, sources, store)
 }
 
-// Consumes the first `len` held bytes of the innermost source, behind which its text stands in a mode.
+// Consumes the first `len` held bytes of the innermost source, after which its text stands in a mode.
 fn use_bytes<R: Drop>(files: &mut Files<R>, len: usize, next: Mode)
     requires some { 0 < length files.old.include_stack }
     requires inside { len ≤ length (held_of (inner_buffer files.old.include_stack)) }

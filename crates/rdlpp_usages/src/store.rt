@@ -74,7 +74,7 @@ impl ArgumentStore {
         self.most - self.kept
     }
 
-    /// Keeps bytes behind those that are kept, for which there is room.
+    /// Keeps bytes after those that are kept, for which there is room.
     pub fn append(&mut self, more: &[u8])
         requires { length self.old.bytes + length more.now ≤ self.old.most }
         ensures { self.new ≡ record self.old { bytes = self.old.bytes ++ more.now } }

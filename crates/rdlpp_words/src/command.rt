@@ -26,7 +26,7 @@ pub(crate) const SOURCE: &str = "source";
 const ABOUT: &str =
     "Preprocesses a SystemRDL source: macros, conditionals, includes and line directives.";
 
-// What stands behind the options in the help.
+// What stands after the options in the help.
 const AFTER: &str = "\
 Exit status:
   0  the text went through
@@ -47,7 +47,7 @@ const DEPS_HELP: &str = "Write to this file a rule for make with each source tha
 const DEFINITIONS_HELP: &str =
     "Write to this file the macros that are defined at the end, as define lines";
 
-const NOTES_HELP: &str = "Write lines 'rdlpp: note: ..' behind a fault, with what helps to mend it";
+const NOTES_HELP: &str = "Write lines 'rdlpp: note: ..' after a fault, with what helps to mend it";
 
 /// The options that take a limit, in the order of the fields of `Limits`, each with its help.
 pub(crate) const LIMITS: [(&str, &str); 9] = [

@@ -38,7 +38,7 @@ pub struct Reports {
     pub deps: Option<String>,
     /// The file that the macros go to which are defined at the end.
     pub definitions: Option<String>,
-    /// Whether notes stand behind a fault.
+    /// Whether notes stand after a fault.
     pub notes: bool,
 }
 
@@ -81,7 +81,7 @@ impl From<AllocError> for UsageFault {
 /// # Errors
 /// `Help` where help or the version is asked for. `Bad` where a word is none of these, is empty,
 /// stands twice or lacks its value, where a number is none or is out of its range, and where there is
-/// no source or a second one. What asks for help or the version ends the reading: words behind it
+/// no source or a second one. What asks for help or the version ends the reading: words after it
 /// aren't looked at. `NoMemory` only where memory was refused.
 pub fn parse_words<'w>(alloc: Global, words: &'w [&'w str]) -> Result<Invocation, UsageFault>
     ensures { IfOk result (λ invocation. AreInRange invocation.options.limits) }

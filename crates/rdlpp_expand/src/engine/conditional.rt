@@ -65,7 +65,7 @@ impl<S: Sources> Engine<S> {
         }
     }
 
-    // Takes an `elsif`, which is given a name or none, or an `else`, in live text or behind text that is
+    // Takes an `elsif`, which is given a name or none, or an `else`, in live text or after text that is
     // skipped, and lends nothing; or refuses it.
     pub(super) fn take_branch(
         &mut self,
@@ -125,7 +125,7 @@ impl<S: Sources> Engine<S> {
         self.consume(len, 0);
     }
 
-    // Takes an `endif`, in live text or behind text that is skipped, and lends nothing; or refuses it.
+    // Takes an `endif`, in live text or after text that is skipped, and lends nothing; or refuses it.
     pub(super) fn take_endif(&mut self) -> Option<Halt>
         requires ready { IsReady self.old }
         requires some { 0 < length (held_of (inner_buffer self.old.files.include_stack)) }

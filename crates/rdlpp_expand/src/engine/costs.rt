@@ -28,7 +28,7 @@ impl<S: Sources> Engine<S> {
         }
     }
 
-    // Takes what a call costs that was read behind the piece of an open text from what is left, or all of that.
+    // Takes what a call costs that was read after the piece of an open text from what is left, or all of that.
     pub(super) fn charge(&mut self, left: &mut usize)
         ensures same { self.new ≡ self.old }
         ensures left { left.new ≤ left.old }

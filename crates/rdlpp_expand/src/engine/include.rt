@@ -65,7 +65,7 @@ impl<S: Sources> Engine<S> {
         }
     }
 
-    // Opens a source inside of those that are open, behind the `include` in front, which has `stop` bytes.
+    // Opens a source inside of those that are open, after the `include` in front, which has `stop` bytes.
     fn enter(&mut self, found: Found<S::Reader>, stop: usize)
         requires live { self.old.conditions.skipped ≡ None }
         requires include_stack { 0 < length self.old.files.include_stack }
@@ -84,7 +84,7 @@ impl<S: Sources> Engine<S> {
         self.pending.queue_origin(self.origins, 1);
     }
 
-    // Leaves an included source, which has ended, and owes what is written behind it.
+    // Leaves an included source, which has ended, and owes what is written after it.
     #[inline(never)]
     pub(super) fn leave(&mut self)
         requires open { self.old.phase ≡ Phase.Open }

@@ -92,7 +92,7 @@ impl<S: Sources> Engine<S> {
         self.expansion.arguments()
     }
 
-    /// Where what is left of the innermost open text of a usage lies: none where no text is open. A fault closes none, so behind a
+    /// Where what is left of the innermost open text of a usage lies: none where no text is open. A fault closes none, so after a
     /// fault of macro text it begins where that was met.
     pub fn innermost_text(&self) -> Option<TextPlace>
         ensures value { result ≡ innermost_place self.now.expansion.opens }

@@ -44,7 +44,7 @@ impl<S: Sources> Engine<S> {
             return Err(NewFault::BadLimits(fault));
         }
         // The sources' buffers are asked for first, and given back last: so they lie in front, and stay with the process. Of the large
-        // blocks behind them, which an allocator may hand back to the system, a short run touches little. The open texts come last:
+        // blocks after them, which an allocator may hand back to the system, a short run touches little. The open texts come last:
         // their list of slots, where it is small, may keep all that lies before it from being handed back.
         let Ok(files) = Files::new(alloc, limits.includes + 1, limits.line_bytes) else {
             return Err(NewFault::NoMemory);

@@ -27,7 +27,7 @@ impl<S: Sources> Engine<S> {
     /// Text of a source has the shown name and the shown line of its first byte, and all text of a usage
     /// those of the backquote of the outermost usage. The LF bytes that a directive or skipped text leaves
     /// stand on its lines, that of a `line` under the name and the number from before it; the one that is
-    /// written behind an included text which ended in mid-line stands on the line of the `include`. An
+    /// written after an included text which ended in mid-line stands on the line of the `include`. An
     /// origin line has the place that it names. A piece without bytes may leave the place as it was. The
     /// rules are this project's.
     pub fn position(&self) -> Option<Position<'_>>

@@ -63,7 +63,7 @@ impl<S: Sources> Engine<S> {
         }
     }
 
-    // Passes `len` bytes of a text that is skipped, behind which it stands in a mode.
+    // Passes `len` bytes of a text that is skipped, after which it stands in a mode.
     fn skip_part(&mut self, len: usize, next: Mode) -> Option<Halt>
         requires ready { IsReady self.old }
         requires skipped { self.old.conditions.skipped ≢ None }

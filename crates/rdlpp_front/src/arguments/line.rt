@@ -1,4 +1,4 @@
-// What a `line` is given behind its word.
+// What a `line` is given after its word.
 ghost use Rattle.std.specs.Prelude.{◌≡◌, ◌≤◌, false, length};
 ghost use Rattle.std.specs.List.{prefix_len};
 ghost use Rattle.rdlpp_scan.specs.Bytes.{is_digit};
@@ -17,7 +17,7 @@ pub struct GivenLine {
     pub number: u64,
     /// The name that is shown from there on: 1 to 1,024 bytes.
     pub name: ArrayString<1024>,
-    /// How many bytes the directive takes behind its word: the rest of its line, with the LF where it
+    /// How many bytes the directive takes after its word: the rest of its line, with the LF where it
     /// has one.
     pub stop: usize,
 }
@@ -26,7 +26,7 @@ pub struct GivenLine {
 /// `line`; `None` where anything but a number, a string of 1 to 1,024 bytes of UTF-8, and one of `0`,
 /// `1` and `2` stands there.
 ///
-/// `bytes` are what is held behind the word, with the LF of its line where it has one. That only blanks
+/// `bytes` are what is held after the word, with the LF of its line where it has one. That only blanks
 /// stand before the directive on its line isn't looked at.
 ///
 /// # Rules
@@ -72,7 +72,7 @@ fn line_number(digits: &[u8]) -> Option<u64>
     if number == 0 { None } else { Some(number) }
 }
 
-// The name between the quotes at the front, where a level ends the line behind it.
+// The name between the quotes at the front, where a level ends the line after it.
 fn shown_name(bytes: &[u8]) -> Option<ArrayString<1024>>
     ensures { IsShownName result bytes.now }
 {
@@ -92,7 +92,7 @@ fn shown_name(bytes: &[u8]) -> Option<ArrayString<1024>>
     ArrayString::from(name).ok()
 }
 
-// The place of the quote that closes a string, behind its first quote.
+// The place of the quote that closes a string, after its first quote.
 fn quote_place(bytes: &[u8]) -> Option<usize>
     ensures place { result ≡ quote_place false bytes.now }
     ensures inside { IsQuoteWithin result bytes.now }

@@ -1,11 +1,11 @@
-// What the bytes behind the accepted lines of a source allow, over slices.
+// What the bytes after the accepted lines of a source allow, over slices.
 ghost use Rattle.std.specs.Prelude.{◌≡◌, ◌≤◌, length, take};
 ghost use Rattle.rdlpp_scan.specs.Lines.{whole_lines_len};
 ghost use Rattle.rdlpp_read.specs.Ahead.{Allows};
 
 use rdlpp_scan::last_line_end;
 
-// What the bytes behind the accepted lines allow.
+// What the bytes after the accepted lines allow.
 #[derive(Clone, Copy)]
 pub(crate) enum Ahead {
     // No line end yet, and more may follow.
@@ -19,7 +19,7 @@ pub(crate) enum Ahead {
 }
 
 /// What `bytes` allow, of which the first `seen` have no LF, where `bytes_left` more may be accepted;
-/// `ended` says that the text ends behind them.
+/// `ended` says that the text ends after them.
 pub(crate) fn look_ahead(bytes: &[u8], seen: usize, bytes_left: usize, ended: bool) -> Ahead
     requires inside { seen ≤ length bytes.now }
     requires none { whole_lines_len (take seen bytes.now) ≡ 0 }

@@ -1,4 +1,4 @@
-// A logical line that goes over several physical lines: more lines are taken in behind what is held.
+// A logical line that goes over several physical lines: more lines are taken in after what is held.
 ghost use Rattle.rdlpp_read.specs.Calls.{SourcesRead};
 ghost use Rattle.rdlpp_read.specs.Buffer.{EndsHeld};
 ghost use Rattle.rdlpp_read.specs.LogicalLines.{HoldsLine, is_failed_line};
@@ -21,16 +21,16 @@ pub enum LogicalLine {
     Failed,
 }
 
-/// Takes in lines behind what is held, until the logical line at its front is held whole, or tells why
+/// Takes in lines after what is held, until the logical line at its front is held whole, or tells why
 /// that can't be. What is held stays, and after a read that failed nothing is lost.
 ///
 /// # Rules
 ///
-/// A logical line goes on behind an LF after `\`, or after `\` and CR (IEEE 1364-2001, `define`). It
+/// A logical line goes on after an LF after `\`, or after `\` and CR (IEEE 1364-2001, `define`). It
 /// has at most as many bytes as a line may have, and that goes before the limit of its source (this
 /// project's profile).
 ///
-/// Costs time linear in the logical line and in what was read behind it, however it is cut by reads.
+/// Costs time linear in the logical line and in what was read after it, however it is cut by reads.
 pub fn hold_logical_line<S: Sources>(
     buffer: &mut SourceBuffer<S::Reader>,
     sources: &mut S,

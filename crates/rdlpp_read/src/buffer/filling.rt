@@ -31,7 +31,7 @@ pub enum Fill {
 }
 
 impl<R: Drop> SourceBuffer<R> {
-    // Accepts what can be, where the first `seen` bytes behind the accepted lines have no LF.
+    // Accepts what can be, where the first `seen` bytes after the accepted lines have no LF.
     fn accept(&mut self, seen: usize) -> Option<Fill>
         requires inside { seen ≤ length (ahead_of self.old) }
         requires none { whole_lines_len (take seen (ahead_of self.old)) ≡ 0 }
@@ -65,7 +65,7 @@ pub fn fill_room(bytes: &mut Vec<u8>, len: usize)
     }
 }
 
-// Makes room behind the first `filled` bytes where there is none: a little for the first read of a source, and as much again
+// Makes room after the first `filled` bytes where there is none: a little for the first read of a source, and as much again
 // where a read took all, so that a short source touches no more of the memory that is reserved than it needs.
 fn make_room(bytes: &mut Vec<u8>, filled: usize, line_bytes: usize)
     requires inside { filled ≤ vec_len bytes.old }
@@ -85,7 +85,7 @@ fn make_room(bytes: &mut Vec<u8>, filled: usize, line_bytes: usize)
     }
 }
 
-// Reads into a buffer behind its first `filled` bytes.
+// Reads into a buffer after its first `filled` bytes.
 fn read_into<S: Sources>(
     sources: &mut S,
     reader: &mut S::Reader,
@@ -107,7 +107,7 @@ fn read_into<S: Sources>(
     sources.read(reader, &mut buffer[filled..])
 }
 
-// Reads into the room behind the window, or tells that the line is too long.
+// Reads into the room after the window, or tells that the line is too long.
 fn read_on<S: Sources>(buffer: &mut SourceBuffer<S::Reader>, sources: &mut S) -> Option<Fill>
     requires { IsSome buffer.old.reader }
     ensures turn { Turns (S.has_known_texts sources.old) S.unread result buffer.old buffer.new }
@@ -155,7 +155,7 @@ fn probe_end<S: Sources>(buffer: &mut SourceBuffer<S::Reader>, sources: &mut S) 
     }
 }
 
-// Moves what isn't used to the front, accepts lines behind those that are held, and reads on until there are some, or tells why
+// Moves what isn't used to the front, accepts lines after those that are held, and reads on until there are some, or tells why
 // there are none.
 pub(crate) fn take_lines<S: Sources>(buffer: &mut SourceBuffer<S::Reader>, sources: &mut S) -> Fill
     requires { EndsHeld buffer.old }

@@ -99,7 +99,7 @@ impl Cursors {
         }
     }
 
-    // Binds a call in the innermost text, from one place of that text up to another, goes on behind it, and opens the body of
+    // Binds a call in the innermost text, from one place of that text up to another, goes on after it, and opens the body of
     // the macro. Nothing changes where that isn't so.
     fn open_bound(
         &mut self,

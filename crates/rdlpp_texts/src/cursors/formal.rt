@@ -18,7 +18,7 @@ use rdlpp_meaning::FaultKind;
 use rdlpp_table::Table;
 
 impl Cursors {
-    // Opens the actual of the formal whose name stands at the front of the innermost text, which goes on behind that name; its
+    // Opens the actual of the formal whose name stands at the front of the innermost text, which goes on after that name; its
     // default, where the actual is empty and it has one (this project's profile).
     //
     // Where no frame is left it is a fault (`DepthPassed`) without a word, also for an empty actual, and nothing changes then.

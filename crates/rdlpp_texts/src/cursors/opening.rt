@@ -13,7 +13,7 @@ use rdlpp_table::Table;
 impl Cursors {
     // Opens what stands at the front of the innermost text, or closes that text where nothing is left of it.
     //
-    // Behind a run that is lent, the last open text isn't closed.
+    // After a run that is lent, the last open text isn't closed.
     //
     // `text` is the text in which the innermost lies, as it is for all that is opened there.
     pub(super) fn open_front(

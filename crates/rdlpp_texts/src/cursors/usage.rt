@@ -140,7 +140,7 @@ fn unknown_kind(name: &[u8]) -> FaultKind
     }
 }
 
-// Where the name of a usage stands: behind its backquote.
+// Where the name of a usage stands: after its backquote.
 pub(super) fn word_of(peek: &Peek, len: usize) -> TextPlace
     requires short { peek.now.at + len < 2 ^ 64 }
     requires some { 0 < len }

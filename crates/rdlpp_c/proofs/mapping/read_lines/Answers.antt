@@ -1,4 +1,4 @@
--- Parts of pieces are read, one behind the other, until the buffer is full, the map's has no room for a line, or the output ends.
+-- Parts of pieces are read, one after the other, until the buffer is full, the map's has no room for a line, or the output ends.
 use Rattle.std.proofs.Common.{◌≡◌, ◌-◌, ◌⊎◌, length, true, refl, sym, ◌∙◌, arith, inl, inr, is_some}
 use Rattle.rdlpp_expand.proofs.Readings.{given_none}
 use Rattle.rdlpp_c.specs.Streaming.{owned_sources}

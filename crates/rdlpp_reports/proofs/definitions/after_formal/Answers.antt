@@ -1,4 +1,4 @@
--- Behind its name, and behind its default text where it has one.
+-- After its name, and after its default text where it has one.
 use Rattle.std.proofs.Common.{arith}
 use Rattle.std.proofs.lemmas.Bool.Decides.{nat_tests}
 use Rattle.rdlpp_reports.proofs.Written.{after_default, after_plain}

@@ -1,4 +1,4 @@
--- Behind its name, each of its formals, and its body.
+-- After its name, each of its formals, and its body.
 use Rattle.std.proofs.Common.{◌+◌, ◌++◌, drop, arith, ◌∙◌, flat_map}
 use Rattle.rdlpp_define.specs.Macros.{formal_bytes, formals_of}
 use Rattle.rdlpp_define.specs.Table.{macro_at, no_formal}

@@ -8,7 +8,7 @@ use Rattle.rdlpp_meaning.specs.Meaning.{digits_value, past_blank_bytes, renumber
 use Rattle.rdlpp_front.proofs.LineArguments.{line_numbered, line_rest, line_unnumbered}
 use Rattle.rdlpp_front.proofs.arguments.line.given_line.Goals as goal
 
--- the name behind the number
+-- the name after the number
 numbered : (rest word : List ℕ) (n number : ℕ) → word ≡ past_blank_bytes rest → n ≡ prefix_len is_digit (past_blank_bytes rest)
     → (number ≡ digits_value (take n word)) × (0 < number) × (number ≤ 2147483647)
     → renumbered rest ≡ renumbered_name number (past_blank_bytes (drop n word))
@@ -17,7 +17,7 @@ numbered rest word n number text len j = grind (arith, line_numbered)
 pub slice_bounds-past_blanks-end : goal.slice_bounds-past_blanks-end
 slice_bounds-past_blanks-end c = grind (arith, line_rest c.args.bytes.now c.unwrap_or-stop.result c.rest_of_line.result c.rest_of_line.ensures c.unwrap_or-stop.ensures, line_len-le c.args.bytes.now, length-take-le)
 
--- what stands behind the blanks of the rest of the line
+-- what stands after the blanks of the rest of the line
 after_blanks : (bytes text : List ℕ) (stop : ℕ) → stop ≡ line_len bytes → text ≡ past_blank_bytes (take stop bytes) → text ≡ past_blank_bytes (take (line_len bytes) bytes)
 after_blanks bytes text stop is rest = rest ∙ ap (λ (n : ℕ). past_blank_bytes (take n bytes)) is
 

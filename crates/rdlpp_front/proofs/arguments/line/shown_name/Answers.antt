@@ -34,7 +34,7 @@ returns-then-not-is_level c =
     λ number. name_refused number n bytes c.if-bytes-ne34.false place
     (fails_fourth (leb 1 n) (leb n 1024) (is_utf8 (take n (drop 1 bytes))) (is_level (past_blank_bytes (drop (n + 2) bytes))) none)
 
--- a string that is closed, and a level behind it
+-- a string that is closed, and a level after it
 quoted : (bytes following : List ℕ) (n : ℕ) (level : Bool) → get_or bytes 0 0 ≡ 34 → Some n ≡ quote_place false (take (length bytes - 1) (drop 1 bytes)) → n < length (take (length bytes - 1) (drop 1 bytes))
     → n ≢ 0 → following ≡ past_blank_bytes (take (length bytes - (n + 2)) (drop (n + 2) bytes)) → level ≡ is_level following → level ≡ true → IsQuoted bytes n
 quoted bytes following n level quote place inside some rest is holds = grind (arith, take_rest bytes 1, take_rest bytes (n + 2))

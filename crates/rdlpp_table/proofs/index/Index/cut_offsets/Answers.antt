@@ -2,7 +2,7 @@ use Rattle.std.proofs.Common.{◌≡◌, ◌≤◌, ◌-◌, ◌+◌, ℕ, List,
 use Rattle.std.specs.List.{remove_range}
 use Rattle.std.proofs.lemmas.List.{drop-drop}
 use Rattle.rdlpp_table.specs.IndexView.{IndexView, places_room}
-use Rattle.rdlpp_table.proofs.Arranged.{arranged, covered_behind, cut_before, cut_behind, same_places, uncut}
+use Rattle.rdlpp_table.proofs.Arranged.{arranged, covered_after, cut_after, cut_before, same_places, uncut}
 use Rattle.rdlpp_table.proofs.index.Index.cut_offsets.Goals as goal
 
 pub returns-then-from-to : goal.returns-then-from-to
@@ -20,7 +20,7 @@ returns-then-from-following c =
     (same_places x.order.items _ _ _ first c.self.invariant.spaced (omega arith) (rw c.offsets_start.ensures at c.cover.ensures.before))
     (drop-drop (x.given_up + size) start c.cover.new.list.items
     ∙ (ap (λ (n : ℕ). drop n c.cover.new.list.items) more
-    ∙ (covered_behind x.order.items c.cover.new.list.items first c.args.from c.args.to c.requires.0 e
+    ∙ (covered_after x.order.items c.cover.new.list.items first c.args.from c.args.to c.requires.0 e
     ∙ ap (λ (l : List ℕ). remove_range l c.args.from c.args.to) (sym (drop-drop x.given_up start x.order.items)))))
     (ap (λ (n : ℕ). n - places_room x.most_places) c.cover.ensures.capacity))
 
@@ -35,6 +35,6 @@ returns-else-from-following c =
     (same_places x.order.items _ _ _ (first + c.args.from) c.self.invariant.spaced (omega arith) (ap (take (first + c.args.from)) e ∙ cut_before x.order.items (first + c.args.from) (first + c.args.to) inside))
     (drop-drop x.given_up start c.cut.new.list.items
     ∙ (ap (drop first) e
-    ∙ (cut_behind x.order.items first c.args.from c.args.to inside
+    ∙ (cut_after x.order.items first c.args.from c.args.to inside
     ∙ ap (λ (l : List ℕ). remove_range l c.args.from c.args.to) (sym (drop-drop x.given_up start x.order.items)))))
     (ap (λ (n : ℕ). n - places_room x.most_places) c.cut.ensures.capacity))

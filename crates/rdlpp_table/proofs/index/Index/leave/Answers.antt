@@ -1,7 +1,7 @@
 use Rattle.std.proofs.Common.{◌/◌, ◌+◌, ◌-◌, ◌∙◌, List, ℕ, ap, arith, get_or, subst, sym, vec_len}
 use Rattle.rdlpp_table.specs.IndexView.{IndexView, IsInBucket, places_room}
 use Rattle.rdlpp_table.proofs.Arranged.{bucket_inside, bucket_place, leaves, left_arranged, slack_arranged, slack_fits}
-use Rattle.rdlpp_table.proofs.Groups.{IsBehind, mapped}
+use Rattle.rdlpp_table.proofs.Groups.{BucketsAreAfter, mapped}
 use Rattle.rdlpp_define.proofs.Sizes.{count_items}
 use Rattle.rdlpp_table.proofs.index.Index.leave.Goals as goal
 
@@ -14,7 +14,7 @@ move_up-requires c =
 pub invariant_of-self : goal.invariant_of-self
 invariant_of-self c =
     let inside = subst (λ (v : IndexView). IsInBucket v.bucket_starts c.args.bucket c.args.at) (sym c.self.view_is) c.requires.at in
-    let some = subst (λ (v : IndexView). IsBehind c.args.bucket v.bucket_starts) (sym c.self.view_is) c.requires.some in
+    let some = subst (λ (v : IndexView). BucketsAreAfter c.args.bucket v.bucket_starts) (sym c.self.view_is) c.requires.some in
     let a = slack_arranged _ _ (vec_len c.make_slack.new.order) _ _ _ _ _ _ c.self.invariant c.make_slack.ensures.spaced c.make_slack.ensures.most (omega (arith, c.make_slack.ensures.len)) c.make_slack.ensures.capacity in
     left_arranged c.make_slack.new.order.items _ _ _ _ _ _ _ c.requires.bucket a.spaced inside c.begin_sooner.ensures some (omega (arith, a.inside, count_items c.make_slack.new.order))
     (mapped (λ n. n + 1) (c.args.bucket / 32 + 1) 33 c.make_slack.new.before c.move_up.new.starts (omega (arith, c.requires.bucket)) (omega (arith, a.spaced.groups)) c.move_up.ensures)
@@ -31,7 +31,7 @@ pub returns-clause-leaves : goal.returns-clause-leaves
 returns-clause-leaves c =
     let x = c.self.inside in
     let inside = subst (λ (v : IndexView). IsInBucket v.bucket_starts c.args.bucket c.args.at) (sym c.self.view_is) c.requires.at in
-    let some = subst (λ (v : IndexView). IsBehind c.args.bucket v.bucket_starts) (sym c.self.view_is) c.requires.some in
+    let some = subst (λ (v : IndexView). BucketsAreAfter c.args.bucket v.bucket_starts) (sym c.self.view_is) c.requires.some in
     rw (← c.self.view_is) (leaves c.make_slack.new.order.items _ _ _ _ _ _ _ c.requires.bucket c.make_slack.ensures.spaced inside c.begin_sooner.ensures some
     (omega (arith, c.self.invariant.inside, c.make_slack.ensures.len, count_items c.make_slack.new.order))
     (mapped (λ n. n + 1) (c.args.bucket / 32 + 1) 33 c.make_slack.new.before c.move_up.new.starts (omega (arith, c.requires.bucket)) (omega (arith, c.make_slack.ensures.spaced.groups)) c.move_up.ensures)

@@ -44,10 +44,10 @@ returns c =
     let kept : List ℕ = c.make_offset_room.new.order.items in
     let offsets : List ℕ = offsets_of (formals_read c.args.count c.args.list.now) in
     let inside : start + c.make_offset_room.new.given_up ≤ length kept = omega (arith, c.make_offset_room.ensures.inside, c.offsets_start-start.ensures, count_items c.make_offset_room.new.order) in
-    let behind : c.make_offset_room.new.given_up ≤ length (drop start kept) = omega (arith, length-drop start kept) in
+    let after : c.make_offset_room.new.given_up ≤ length (drop start kept) = omega (arith, length-drop start kept) in
     rw (← c.self.view_is) (arranged x.order.items _ _ _ _ x.given_up _ x.most_places _ _
     (same_places x.order.items _ _ _ start c.self.invariant.spaced (omega arith) (ap (take start) c.push_offsets.ensures.items ∙ (take-append-le start kept offsets (omega arith) ∙ rw c.offsets_start-start.ensures at c.make_offset_room.ensures.before)))
     (ap (λ (l : List ℕ). drop c.make_offset_room.new.given_up (drop start l)) c.push_offsets.ensures.items
     ∙ (ap (drop c.make_offset_room.new.given_up) (drop-append-le start kept offsets (omega arith))
-    ∙ (drop-append-le c.make_offset_room.new.given_up (drop start kept) offsets behind ∙ ap (λ (l : List ℕ). l ++ offsets) (rw c.offsets_start-start.ensures at c.make_offset_room.ensures.offsets))))
+    ∙ (drop-append-le c.make_offset_room.new.given_up (drop start kept) offsets after ∙ ap (λ (l : List ℕ). l ++ offsets) (rw c.offsets_start-start.ensures at c.make_offset_room.ensures.offsets))))
     (ap (λ (n : ℕ). n - places_room x.most_places) (c.push_offsets.ensures.capacity ∙ c.make_offset_room.ensures.capacity)))
