@@ -68,7 +68,7 @@ fn file_at(bytes: &[u8], place: Place) -> (&str, &[u8]) {
     (str::from_utf8(name).unwrap_or(""), text)
 }
 
-// Appends a file: its name, and its text of 1 to 20 kB after a guard, with includes of files on lower levels in front.
+// Appends a file: its name, and its text of 1 to 20 kB behind a guard, with includes of files on lower levels in front.
 fn put_file(
     all: &mut Text,
     random: &mut Random,

@@ -34,7 +34,7 @@ pub fn run_shorts(
     Ok(())
 }
 
-/// The same row, in one engine. Its texts are all made before, one after the other, since the engine borrows them.
+/// The same row, in one engine. Its texts are all made before, one behind the other, since the engine borrows them.
 pub fn run_renewed(
     alloc: Global,
     random: &mut Random,

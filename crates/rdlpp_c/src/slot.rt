@@ -1,4 +1,4 @@
-// What a handle owns, after a pointer that C keeps.
+// What a handle owns, by the pointer that C keeps.
 ghost use Rattle.std.specs.Prelude.{◌≡◌, Option, Some, None, true};
 ghost use Rattle.std.specs.Option.{is_some};
 ghost use Rattle.std.specs.Coded.{coded_option};

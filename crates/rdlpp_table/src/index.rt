@@ -331,7 +331,7 @@ fn make_slack(order: &mut Vec<u16>, starts: &BucketStarts, before: &mut [u32; 33
 
 // Sees to it that there is room for two offsets of each of so many formals, where the offsets begin at a place of a list and there is
 // room for so many. Where there is none, or more are given up than aren't, those that aren't move to the front, and what was given up
-// there becomes room after.
+// there becomes room at the back.
 fn make_offset_room(
     order: &mut Vec<u16>,
     start: usize,

@@ -138,8 +138,8 @@ pub(crate) fn usage_without(
     }
 }
 
-// Where there is no room after for so many bytes or for one more entry, or more is given up than is there, all moves to the front:
-// room that was given up there becomes room after. So no more is given up then than is there. A move is paid for by the last removal
+// Where there is no room at the back for so many bytes or for one more entry, or more is given up than is there, all moves to the front:
+// room that was given up there becomes room at the back. So no more is given up then than is there. A move is paid for by the last removal
 // that gave up room, which left in place three quarters or more of what there was, and by the definitions since.
 fn make_room(bytes: &mut Vec<u8>, entries: &mut Vec<Entry>, front: &mut GivenUp, size: usize)
     requires stored { IsStored front.old.bytes front.old.formal_offsets bytes.old.items (live front.old.entries entries.old.items) (macros_in bytes.old.items (live front.old.entries entries.old.items)) }
