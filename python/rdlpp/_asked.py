@@ -6,18 +6,26 @@ can't be read; any other exception ends the run and comes out of it.
 A text that can be had again isn't kept while nobody reads it: where its path is included again it is asked for again.
 """
 
+from __future__ import annotations
+
 import ctypes
 import errno
 import os
 import stat
-from typing import Any, Callable, Mapping, Optional, Protocol, Tuple, Union
 
+from ._light import TYPE_CHECKING, Protocol
 from ._standing_text import StandingText
+from ._written import c_library
 
-# What a mapping and a callable may give as a text.
-Bytes = Union[bytes, bytearray, memoryview]
-# Which file one is, by whatever path it is opened: its device, and its number there.
-FileId = Tuple[int, int]
+if TYPE_CHECKING:
+    from collections.abc import Callable, Mapping
+    from typing import Any, Tuple, Union
+
+    # What a mapping and a callable may give as a text.
+    Bytes = Union[bytes, bytearray, memoryview]
+    # Which file one is, by whatever path it is opened: its device, and its number there.
+    FileId = Tuple[int, int]
+
 LF, NUL = b"\n\0"
 NUL_IN_NAME = "file name contained an unexpected NUL byte"
 # How much of a file is read at once at least, where its size isn't known or less is left.
@@ -33,7 +41,7 @@ HOW = os.O_RDONLY | os.O_CLOEXEC
 
 # Room from some address on, of which no more is used than a part has.
 _room = ctypes.c_char * StandingText.most
-_last = ctypes.CDLL(None).memrchr
+_last = c_library.memrchr
 _last.restype = ctypes.c_void_p
 _last.argtypes = [ctypes.c_void_p, ctypes.c_int, ctypes.c_size_t]
 
@@ -53,7 +61,7 @@ class Parts(Protocol):
     def take(self, length: int, more: int) -> None:
         """Takes so many bytes that stand there; about so many more follow."""
 
-    def rest(self) -> Union[bytes, StandingText]:
+    def rest(self) -> bytes | StandingText:
         """What is to be told of the text when its last part was taken."""
 
 
@@ -66,9 +74,9 @@ class Asked(Protocol):
     """
 
     stays: bool
-    file: Optional[FileId]
+    file: FileId | None
 
-    def text_at(self, path: bytes, parts: Parts) -> Union[Bytes, StandingText, None]:
+    def text_at(self, path: bytes, parts: Parts) -> Bytes | StandingText | None:
         """The text at a path in UTF-8, or what is to be told of it when its parts were taken."""
 
 
@@ -80,7 +88,7 @@ class Unreadable(Exception):
         is_open: whether it was opened, so that a read failed.
     """
 
-    def __init__(self, error: Union[OSError, ValueError], is_open: bool):
+    def __init__(self, error: OSError | ValueError, is_open: bool):
         super().__init__(error, is_open)
         self.error = error
         self.is_open = is_open
@@ -107,13 +115,13 @@ class Disk:
 
     def __init__(self, source_bytes: int, line_bytes: int, tells_files: bool) -> None:
         self.stays = False
-        self.file: Optional[FileId] = None
+        self.file: FileId | None = None
         # With so many bytes one line is whole that passes `source_bytes`, or one has more than `line_bytes`.
         self._most = source_bytes + line_bytes + 1
         self._line = line_bytes
         self._tells_files = tells_files
 
-    def text_at(self, path: bytes, parts: Parts) -> Union[bytes, StandingText, None]:
+    def text_at(self, path: bytes, parts: Parts) -> bytes | StandingText | None:
         if LF in path:
             return None
         if NUL in path:
@@ -135,7 +143,7 @@ class Disk:
         finally:
             os.close(file)
 
-    def _text(self, file: int, parts: Parts) -> Union[bytes, StandingText]:
+    def _text(self, file: int, parts: Parts) -> bytes | StandingText:
         """What a run can use of an open file, which may grow meanwhile."""
         self.file = None
         if not self._tells_files:
@@ -172,7 +180,7 @@ class Disk:
             parts.take(count, max(size - length, 0))
 
 
-def _small_text(file: int) -> Optional[bytes]:
+def _small_text(file: int) -> bytes | None:
     """All of an open file that has fewer than SMALL bytes and can be read again; else None, and it stands where it stood."""
     try:
         text = os.pread(file, SMALL, 0)
@@ -191,14 +199,14 @@ def entries(files: Mapping[Any, Bytes], objects: Mapping[str, Any]) -> Asked:
         objects: the keys that are path objects, by their paths. A key that is the path itself goes first.
     """
 
-    def entry(path: str) -> Optional[Bytes]:
+    def entry(path: str) -> Bytes | None:
         text = files.get(path)
         return files.get(objects[path]) if text is None and path in objects else text
 
     return Checked(entry, "files[{!r}]", "be bytes", stays=True)
 
 
-def given(read: Callable[[str], Optional[Bytes]]) -> Asked:
+def given(read: Callable[[str], Bytes | None]) -> Asked:
     """What a callable gives."""
     return Checked(read, "read({!r})", "give bytes, or None where nothing is there", stays=False)
 
@@ -209,10 +217,10 @@ class Checked:
 
     def __init__(self, text_at: Callable[[str], Any], name: str, wanted: str, *, stays: bool):
         self.stays = stays
-        self.file: Optional[FileId] = None
+        self.file: FileId | None = None
         self._text_at, self._name, self._wanted = text_at, name, wanted
 
-    def text_at(self, path: bytes, parts: Parts) -> Optional[Bytes]:
+    def text_at(self, path: bytes, parts: Parts) -> Bytes | None:
         shown = path.decode()
         try:
             text = self._text_at(shown)

@@ -1,9 +1,14 @@
 """Why a text wasn't preprocessed to its end."""
 
+from __future__ import annotations
+
 from enum import IntEnum
-from typing import TYPE_CHECKING, Any, Optional, Tuple
+
+from ._light import TYPE_CHECKING
 
 if TYPE_CHECKING:
+    from typing import Any
+
     from ._output import Output
 
 
@@ -83,9 +88,9 @@ class Fault(Exception):
         line: int,
         word: str = "",
         text: str = "",
-        notes: Tuple[str, ...] = (),
+        notes: tuple[str, ...] = (),
         output: bytes = b"",
-        partial: "Optional[Output]" = None,
+        partial: Output | None = None,
     ):
         super().__init__(kind, name, line, word, text)
         self.kind = kind
@@ -109,7 +114,7 @@ class Fault(Exception):
     def __repr__(self) -> str:
         return f"<Fault {self}>"
 
-    def __reduce__(self) -> Tuple[Any, ...]:
+    def __reduce__(self) -> tuple[Any, ...]:
         parts = (self.kind, self.name, self.line, self.word, self.text, self.notes, self.output, self.partial)
         return type(self), parts
 

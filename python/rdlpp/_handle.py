@@ -1,14 +1,20 @@
 """Handles of the library. Each thread keeps one from a call to the next, so that its memory is used again."""
 
+from __future__ import annotations
+
 import atexit
 import ctypes
 import os
-import threading
-from typing import Any, Callable, List, Optional, Tuple
 
 from . import _library as library
-from ._limits import Limits
-from ._request import Request
+from ._light import TYPE_CHECKING, local
+
+if TYPE_CHECKING:
+    from collections.abc import Callable
+    from typing import Any
+
+    from ._limits import Limits
+    from ._request import Request
 
 # The text that the limits of a kept handle allow; with all its tables it has less than 18 MB then.
 MOST_HELD = 4_000_000
@@ -46,11 +52,11 @@ class OwnedHandle:
         self._request = library.Request()
         self._request.asks = True
         self._open = (ctypes.byref(self._request), *self.told, self.at)
-        self._limits: Optional[Limits] = None
+        self._limits: Limits | None = None
         self.is_small = False
         self.place, self.most = ctypes.c_void_p(), ctypes.c_size_t()
         self.read = (self.at, self.place, self.most, *self.told)
-        self._mapped: Optional[Tuple[Any, Tuple[Any, ...]]] = None
+        self._mapped: tuple[Any, tuple[Any, ...]] | None = None
         self.path_length, self.text_length = ctypes.c_size_t(), ctypes.c_size_t()
 
     def open(self, request: Request, pieces: bool) -> library.Outcome:
@@ -74,7 +80,7 @@ class OwnedHandle:
         self.is_small = held <= MOST_HELD
         self._limits = limits
 
-    def mapped(self) -> Tuple[Any, Tuple[Any, ...]]:
+    def mapped(self) -> tuple[Any, tuple[Any, ...]]:
         """The room for the lines of a line map, and all that a read takes which writes them."""
         if self._mapped is None:
             room = (ctypes.c_char * library.MAP_ROOM)()
@@ -90,7 +96,7 @@ class OwnedHandle:
         self.close()
 
 
-class _Thread(threading.local):
+class _Thread(local):
     """What belongs to a thread, and goes with it.
 
     Attributes:
@@ -98,7 +104,7 @@ class _Thread(threading.local):
     """
 
     def __init__(self) -> None:
-        self.kept: List[OwnedHandle] = []
+        self.kept: list[OwnedHandle] = []
 
 
 _thread = _Thread()
@@ -106,12 +112,12 @@ _thread = _Thread()
 CLOSED = OwnedHandle()
 
 
-def kept_here() -> List[OwnedHandle]:
+def kept_here() -> list[OwnedHandle]:
     """What this thread keeps: one handle, or none."""
     return _thread.kept
 
 
-def taken(kept: List[OwnedHandle]) -> OwnedHandle:
+def taken(kept: list[OwnedHandle]) -> OwnedHandle:
     """The handle that is kept, and no longer is, since a call has it now; or a new one."""
     # a signal's handler may make a call anywhere here: so it is one step that takes it
     try:

@@ -1,13 +1,18 @@
 """The library for C, as rdlpp.h declares it."""
 
+from __future__ import annotations
+
 import ctypes
 import os
-from typing import Any, Callable, Sequence, Tuple, Union
 
-from ._asked import Bytes
+from ._light import TYPE_CHECKING
 from ._limits import Limits
 from ._standing_text import StandingText
 from ._written import Written
+
+if TYPE_CHECKING:
+    from collections.abc import Callable, Sequence
+    from typing import Any
 
 WHOLE, STOPPED, BAD_LIMIT, BAD_TEXT, NO_MEMORY, MORE, CLOSED, WANTED, SHORT_MAP, CHANGED = range(10)
 NAME_ROOM = 1024
@@ -128,7 +133,7 @@ _fault_text = _declared("rdlpp_fault_text", ctypes.c_size_t, ctypes.c_uint32, *_
 _version = _declared("rdlpp_version", ctypes.c_size_t, *_buffer)
 
 
-def pointer_and_length(text: Union[bytearray, memoryview, StandingText]) -> Tuple[Any, int]:
+def pointer_and_length(text: bytearray | memoryview | StandingText) -> tuple[Any, int]:
     """A text as a call takes it. It is copied only where its memory can't be passed on."""
     if isinstance(text, StandingText):
         return (ctypes.c_void_p(text.place) if text.filled else b""), text.filled
@@ -138,7 +143,7 @@ def pointer_and_length(text: Union[bytearray, memoryview, StandingText]) -> Tupl
     return ctypes.byref(ctypes.c_char.from_buffer(view)), view.nbytes
 
 
-def pairs(items: Sequence[Tuple[bytes, bytes]]) -> Any:
+def pairs(items: Sequence[tuple[bytes, bytes]]) -> Any:
     """An array of pairs of texts. It has a place at least, so that its address is never null."""
     if not items:
         return _NO_PAIRS

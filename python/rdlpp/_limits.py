@@ -1,8 +1,9 @@
 """How much of each thing a run may use."""
 
-from typing import NamedTuple
+from __future__ import annotations
 
 from ._faults import LimitError
+from ._light import NamedTuple
 
 RANGES = {
     "depth": (1, 1_024),
@@ -78,7 +79,7 @@ class Limits(_Fields):
         definitions: int = 4_096,
         conditions: int = 256,
         output_bytes: int = 2**64 - 1,
-    ) -> "Limits":
+    ) -> Limits:
         made = super().__new__(
             cls,
             depth,

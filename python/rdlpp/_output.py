@@ -1,7 +1,10 @@
 """What a run gives: the output, and what is told beside it."""
 
-from bisect import bisect_right
-from typing import Iterator, List, NamedTuple, Optional, Tuple, Union
+from __future__ import annotations
+
+from collections.abc import Iterator
+
+from ._light import NamedTuple, bisect_right
 
 
 class Place(NamedTuple):
@@ -61,9 +64,9 @@ class Lines:
     def __init__(self, runs: bytes, text: bytes):
         self._runs = runs
         # the output, until its lines are counted, and then their number
-        self._counted: Union[bytes, int] = text
-        self._starts: Optional[List[int]] = None
-        self._parts: List[Tuple[bytes, ...]] = []
+        self._counted: bytes | int = text
+        self._starts: list[int] | None = None
+        self._parts: list[tuple[bytes, ...]] = []
 
     def place(self, line: int) -> Place:
         """The place of a line of the output, counted from 1.
@@ -122,7 +125,7 @@ class Output(NamedTuple):
 
     text: bytes
     lines: Lines
-    sources: Tuple[str, ...]
+    sources: tuple[str, ...]
     definitions: bytes
 
     def __repr__(self) -> str:

@@ -1,17 +1,25 @@
 """An output that is read from the library, which asks for the sources that it needs."""
 
+from __future__ import annotations
+
 import ctypes
-from typing import Any, Dict, List, Optional, Tuple, Union
 
 from . import _library as library
-from ._asked import FileId, Unreadable
+from ._asked import Unreadable
 from ._faults import Fault, FaultKind
 from ._handle import BESIDE, CLOSED, MOST_GIVEN, kept_here, taken
-from ._limits import OPTIONS, Limits
+from ._light import TYPE_CHECKING
+from ._limits import OPTIONS
 from ._output import Position
-from ._request import Request
 from ._standing_text import StandingText
-from ._written import Written
+
+if TYPE_CHECKING:
+    from typing import Any
+
+    from ._asked import FileId
+    from ._limits import Limits
+    from ._request import Request
+    from ._written import Written
 
 # What a note begins with where it is written.
 NOTE = "rdlpp: note: "
@@ -32,9 +40,9 @@ class Reading:
     most = 262_144
     # where a part is read to, and the room that it is part of
     _part = 0
-    _written: Optional[Written] = None
+    _written: Written | None = None
     # the texts that are lent to the handle, and stand until it is closed
-    _lent: Tuple[object, ...] = ()
+    _lent: tuple[object, ...] = ()
 
     def __init__(self, request: Request, *, pieces: bool = False):
         self._home = kept_here()
@@ -42,16 +50,16 @@ class Reading:
         self._owned = [taken(self._home)]
         self._handle = self._owned[0]
         self.is_over = False
-        self.fault: Optional[Fault] = None
+        self.fault: Fault | None = None
         # the sources that were opened: by each file the path by which it was opened first, by each other path itself
-        self._sources: Dict[Union[FileId, bytes], bytes] = {}
+        self._sources: dict[FileId | bytes, bytes] = {}
         self.text_bytes = 0
         # how many bytes the handle was given beside them
         self._given = len(request.path) + BESIDE
-        self.runs: List[bytes] = []
+        self.runs: list[bytes] = []
         self._asked, self._main = request.asked, request.path
         self._limits = request.limits
-        self._unreadable: Optional[Tuple[str, Unreadable]] = None
+        self._unreadable: tuple[str, Unreadable] | None = None
         self._open(request, pieces)
 
     def _open(self, request: Request, pieces: bool) -> None:
@@ -91,14 +99,14 @@ class Reading:
             self.runs.append(lines[: outcome.map_length])
         self._go_on(outcome, written)
 
-    def position(self) -> Optional[Position]:
+    def position(self) -> Position | None:
         """The place of the first byte of what was read last, where there is one."""
         outcome = library.position(self._handle.at, *self._handle.told[:2])
         if outcome.status != library.WHOLE:
             return None
         return Position(self._shown_name(outcome), outcome.line, outcome.number)
 
-    def sources(self) -> Tuple[str, ...]:
+    def sources(self) -> tuple[str, ...]:
         """The path of each source that was opened, in order: of a file the one by which it was opened first."""
         return tuple([path.decode() for path in list(self._sources.values())])
 
@@ -120,7 +128,7 @@ class Reading:
             handle.close()
         self._lent = ()
 
-    def __enter__(self) -> "Reading":
+    def __enter__(self) -> Reading:
         return self
 
     def __exit__(self, *_raised: object) -> None:
@@ -141,7 +149,7 @@ class Reading:
         self._given += len(path) + BESIDE
         self._written = written
         is_main = path == self._main
-        parts: Union[StandingText, Reading] = StandingText() if is_main else self
+        parts: StandingText | Reading = StandingText() if is_main else self
         try:
             text = asked.text_at(path, parts)
         except Unreadable as unreadable:
@@ -228,7 +236,7 @@ def _of_file(fault: Fault, path: str, unreadable: Unreadable) -> Fault:
     return made
 
 
-def _notes(told: bytes, limits: Limits) -> Tuple[str, ...]:
+def _notes(told: bytes, limits: Limits) -> tuple[str, ...]:
     """The notes on a fault, each without what a note begins with. One on a limit names the field in the option's place."""
     lines = told.decode("utf-8", "replace").split("\n")[:-1]
     notes = [line[len(NOTE) :] if line.startswith(NOTE) else line for line in lines]

@@ -1,18 +1,24 @@
 """What a call asks for, checked: a wrong argument is told by its name, with what is wanted in its place."""
 
-import os
-from collections.abc import Iterable as AnyIterable
-from collections.abc import Mapping as AnyMapping
-from typing import Any, Callable, Dict, Iterable, List, Mapping, NamedTuple, Optional, Tuple, TypeVar, Union
+from __future__ import annotations
 
-from ._asked import Asked, Bytes, Disk, entries, given
+import os
+from collections.abc import Iterable, Mapping
+
+from ._asked import Asked, Disk, entries, given
+from ._light import TYPE_CHECKING, NamedTuple
 from ._limits import Limits
 
-Path = Union[str, "os.PathLike[str]"]
-# The keys of one mapping: texts, path objects, or both.
-Key = TypeVar("Key", bound=Path)
-Source = Union[Bytes, Path]
-Read = Callable[[str], Optional[Bytes]]
+if TYPE_CHECKING:
+    from typing import Any, Callable, Optional, TypeVar, Union
+
+    from ._asked import Bytes
+
+    Path = Union[str, os.PathLike[str]]
+    # The keys of one mapping: texts, path objects, or both.
+    Key = TypeVar("Key", bound=Path)
+    Source = Union[Bytes, Path]
+    Read = Callable[[str], Optional[Bytes]]
 
 TEXT_PATH = b"-"
 STANDARD = Limits()
@@ -26,9 +32,9 @@ class Request(NamedTuple):
     """
 
     path: bytes
-    main: Optional[bytes]
-    folders: List[bytes]
-    definitions: List[Tuple[bytes, bytes]]
+    main: bytes | None
+    folders: list[bytes]
+    definitions: list[tuple[bytes, bytes]]
     limits: Limits
     origins: bool
     asked: Asked
@@ -58,7 +64,7 @@ def _path(name: str, value: Any) -> bytes:
     return _utf_8(name, _path_text(name, value))
 
 
-def _main(source: Any) -> Tuple[bytes, Optional[bytes]]:
+def _main(source: Any) -> tuple[bytes, bytes | None]:
     """The path of the main text, and that text where it is given."""
     if isinstance(source, (bytes, bytearray, memoryview)):
         return TEXT_PATH, bytes(source)
@@ -67,19 +73,19 @@ def _main(source: Any) -> Tuple[bytes, Optional[bytes]]:
     return _path("source", source), None
 
 
-def _folders(include_dirs: Any) -> List[bytes]:
+def _folders(include_dirs: Any) -> list[bytes]:
     if not isinstance(include_dirs, (list, tuple)):
         if isinstance(include_dirs, (str, bytes, os.PathLike)):
             raise TypeError(f"include_dirs must be a list of paths, not one path: write [{include_dirs!r}]")
-        if not isinstance(include_dirs, AnyIterable):
+        if not isinstance(include_dirs, Iterable):
             raise _wrong("include_dirs", "a list of paths", include_dirs)
     return [_path(f"include_dirs[{place}]", folder) for place, folder in enumerate(include_dirs)]
 
 
-def _definitions(defines: Any) -> List[Tuple[bytes, bytes]]:
+def _definitions(defines: Any) -> list[tuple[bytes, bytes]]:
     if defines is None:
         return []
-    if not isinstance(defines, AnyMapping):
+    if not isinstance(defines, Mapping):
         raise _wrong("defines", "a mapping from names to bodies", defines)
     made = []
     for name, body in defines.items():
@@ -91,7 +97,7 @@ def _definitions(defines: Any) -> List[Tuple[bytes, bytes]]:
     return made
 
 
-def _path_objects(files: Mapping[Any, Bytes]) -> Dict[str, Any]:
+def _path_objects(files: Mapping[Any, Bytes]) -> dict[str, Any]:
     """The keys of a mapping that are path objects, by their paths. A key that is no path is refused."""
     return {_path_text("a key of files", key): key for key in list(files) if not isinstance(key, str)}
 
@@ -101,7 +107,7 @@ def _asked(files: Any, read: Any, limits: Limits, tells_files: bool) -> Asked:
     if files is not None and read is not None:
         raise ValueError("files and read can't both be given")
     if files is not None:
-        if not isinstance(files, AnyMapping):
+        if not isinstance(files, Mapping):
             raise _wrong("files", "a mapping from paths to bytes", files)
         return entries(files, _path_objects(files))
     if read is not None:
@@ -114,11 +120,11 @@ def _asked(files: Any, read: Any, limits: Limits, tells_files: bool) -> Asked:
 def request_of(
     source: Source,
     include_dirs: Iterable[Path],
-    defines: Optional[Mapping[str, str]],
-    limits: Optional[Limits],
+    defines: Mapping[str, str] | None,
+    limits: Limits | None,
     origins: bool,
-    files: Optional[Mapping[Key, Bytes]],
-    read: Optional[Read],
+    files: Mapping[Key, Bytes] | None,
+    read: Read | None,
     *,
     tells_files: bool = True,
 ) -> Request:

@@ -1,13 +1,19 @@
 """Preprocessing as one call."""
 
-from typing import Callable, Iterable, Mapping, Optional
+from __future__ import annotations
 
-from ._asked import Bytes
-from ._limits import Limits
+from ._light import TYPE_CHECKING
 from ._output import Lines, Output
 from ._reading import Reading
-from ._request import Key, Path, Read, Source, request_of
+from ._request import request_of
 from ._written import Written, roomy
+
+if TYPE_CHECKING:
+    from collections.abc import Callable, Iterable, Mapping
+
+    from ._asked import Bytes
+    from ._limits import Limits
+    from ._request import Key, Path, Read, Source
 
 # How much one read asks for: it comes back soon, mostly in milliseconds, so that a signal is seen.
 PART = 131_072
@@ -23,7 +29,7 @@ def _read_all(reading: Reading, read: Callable[[Written, int], None]) -> bytes:
     return written.take()
 
 
-def _raise_fault(reading: Reading, text: bytes, partial: Optional[Output] = None) -> None:
+def _raise_fault(reading: Reading, text: bytes, partial: Output | None = None) -> None:
     """Raises the fault of an output that was ended by one, with what was made before it.
 
     No frame keeps it, so that it goes, and the output with it, as soon as the caller drops it.
@@ -40,12 +46,12 @@ def _raise_fault(reading: Reading, text: bytes, partial: Optional[Output] = None
 def preprocess(
     source: Source,
     include_dirs: Iterable[Path] = (),
-    defines: Optional[Mapping[str, str]] = None,
-    limits: Optional[Limits] = None,
+    defines: Mapping[str, str] | None = None,
+    limits: Limits | None = None,
     origins: bool = False,
     *,
-    files: Optional[Mapping[Key, Bytes]] = None,
-    read: Optional[Read] = None,
+    files: Mapping[Key, Bytes] | None = None,
+    read: Read | None = None,
 ) -> bytes:
     """Preprocesses a text and answers the output.
 
@@ -91,11 +97,11 @@ def run(
     source: Source,
     *,
     include_dirs: Iterable[Path] = (),
-    defines: Optional[Mapping[str, str]] = None,
-    limits: Optional[Limits] = None,
+    defines: Mapping[str, str] | None = None,
+    limits: Limits | None = None,
     origins: bool = False,
-    files: Optional[Mapping[Key, Bytes]] = None,
-    read: Optional[Read] = None,
+    files: Mapping[Key, Bytes] | None = None,
+    read: Read | None = None,
 ) -> Output:
     """Preprocesses a text and answers the output with its lines, sources and definitions.
 

@@ -1,12 +1,12 @@
 """The text of a main file, which stands where it was read to, and is lent to the library there."""
 
+from __future__ import annotations
+
 import ctypes
-from typing import Optional, cast
 
-from ._written import HUGE_PAGES, prefer
+from ._written import HUGE_PAGES, c_library, prefer
 
-_c = ctypes.CDLL(None)
-_reallocate, _free = _c.realloc, _c.free
+_reallocate, _free = c_library.realloc, c_library.free
 _reallocate.restype, _reallocate.argtypes = ctypes.c_void_p, [ctypes.c_void_p, ctypes.c_size_t]
 _free.restype, _free.argtypes = None, [ctypes.c_void_p]
 
@@ -21,13 +21,13 @@ class StandingText:
     less than twice the largest block. The system gives no pages for what isn't written.
 
     Attributes:
-        place: where it stands.
+        place: where it stands; 0 before it was read.
         filled: how many bytes were read.
         most: how many bytes a part has at most.
     """
 
     most = 4_194_304
-    place: Optional[int] = None
+    place = 0
     filled = 0
     _room = 0
 
@@ -39,15 +39,15 @@ class StandingText:
                 raise MemoryError("memory was refused")
             self.place, self._room = place, room
             prefer(HUGE_PAGES, place, room)
-        return cast(int, self.place) + self.filled
+        return self.place + self.filled
 
     def take(self, length: int, more: int) -> None:
         self.filled += length
 
-    def rest(self) -> "StandingText":
+    def rest(self) -> StandingText:
         """The text itself, since no part of it was given."""
         return self
 
     def __del__(self) -> None:
-        if self.place is not None:
+        if self.place:
             _free(self.place)

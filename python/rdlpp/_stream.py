@@ -1,24 +1,35 @@
 """Outputs that are read piece by piece."""
 
-import warnings
-from contextvars import copy_context
-from threading import RLock
-from typing import AsyncIterator, Iterable, Iterator, Mapping, NoReturn, Optional, Tuple
+from __future__ import annotations
 
-from ._asked import Bytes
+from collections.abc import AsyncIterator, Iterator
+
 from ._faults import Fault
-from ._limits import Limits
-from ._output import Position
+from ._light import TYPE_CHECKING, RLock, warn
 from ._reading import Reading
-from ._request import Key, Path, Read, Source, request_of
+from ._request import request_of
 from ._written import Written
+
+if TYPE_CHECKING:
+    from collections.abc import Iterable, Mapping
+    from typing import NoReturn
+
+    from ._asked import Bytes
+    from ._limits import Limits
+    from ._output import Position
+    from ._request import Key, Path, Read, Source
+
+    _Pieces = Iterator[bytes]
+    _AwaitedPieces = AsyncIterator[bytes]
+else:
+    _Pieces, _AwaitedPieces = Iterator, AsyncIterator
 
 # How much one read asks for: it comes back soon, mostly in milliseconds.
 PART = 65_536
 MOST_ROOM = 1_073_741_824
 
 
-class Stream(Iterator[bytes], AsyncIterator[bytes]):
+class Stream(_Pieces, _AwaitedPieces):
     """The pieces of an output, in order; none is empty. `stream` makes it.
 
     It ends where the output ends, and raises the fault that ends it after the pieces before it. It is read and
@@ -49,7 +60,7 @@ class Stream(Iterator[bytes], AsyncIterator[bytes]):
         self._reading = reading
         self._room = room
         self._has_positions = positions
-        self._position: Optional[Position] = None
+        self._position: Position | None = None
         self._lock = RLock()
         self._is_reading = False
         self._is_closed = False
@@ -67,8 +78,9 @@ class Stream(Iterator[bytes], AsyncIterator[bytes]):
         raise StopIteration
 
     async def __anext__(self) -> bytes:
-        # an import of it takes longer than that of all else here
+        # an import of asyncio takes longer than that of all else here
         from asyncio import get_running_loop
+        from contextvars import copy_context
 
         loop = get_running_loop()
         try:
@@ -88,7 +100,7 @@ class Stream(Iterator[bytes], AsyncIterator[bytes]):
         self._close_if_asked()
 
     @property
-    def position(self) -> Optional[Position]:
+    def position(self) -> Position | None:
         """The place of the first byte of the piece that came last; None before the first one and at the end.
 
             >>> import rdlpp
@@ -107,11 +119,11 @@ class Stream(Iterator[bytes], AsyncIterator[bytes]):
         return self._position
 
     @property
-    def sources(self) -> Tuple[str, ...]:
+    def sources(self) -> tuple[str, ...]:
         """The path of each source that was opened up to here, in order, once: of a file the first path by which it was opened."""
         return self._reading.sources()
 
-    def __enter__(self) -> "Stream":
+    def __enter__(self) -> Stream:
         return self
 
     def __exit__(self, *_raised: object) -> None:
@@ -119,7 +131,7 @@ class Stream(Iterator[bytes], AsyncIterator[bytes]):
 
     def __del__(self) -> None:
         if not self._is_closed and not self._reading.is_over:
-            warnings.warn(f"unclosed {self!r}", ResourceWarning, stacklevel=2, source=self)
+            warn(f"unclosed {self!r}", ResourceWarning, stacklevel=2, source=self)
 
     def __reduce__(self) -> NoReturn:
         raise TypeError("a stream can't be copied or pickled")
@@ -167,12 +179,12 @@ class Stream(Iterator[bytes], AsyncIterator[bytes]):
 def stream(
     source: Source,
     include_dirs: Iterable[Path] = (),
-    defines: Optional[Mapping[str, str]] = None,
-    limits: Optional[Limits] = None,
+    defines: Mapping[str, str] | None = None,
+    limits: Limits | None = None,
     origins: bool = False,
     *,
-    files: Optional[Mapping[Key, Bytes]] = None,
-    read: Optional[Read] = None,
+    files: Mapping[Key, Bytes] | None = None,
+    read: Read | None = None,
     room: int = PART,
     positions: bool = False,
 ) -> Stream:

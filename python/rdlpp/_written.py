@@ -4,13 +4,16 @@ An extension module makes such an object by `PyBytes_FromStringAndSize` without 
 else has it, and gives it another length by `_PyBytes_Resize`; so it is here, by ctypes.
 """
 
+from __future__ import annotations
+
 import ctypes
 import sys
-from typing import cast
 
 if sys.implementation.name != "cpython":
     raise ImportError(f"rdlpp needs CPython, whose bytes objects it writes to, and this is {sys.implementation.name}")
 
+# The C library, as the process has it.
+c_library = ctypes.CDLL(None)
 _new = ctypes.pythonapi.PyBytes_FromStringAndSize
 _new.restype = ctypes.c_void_p
 _new.argtypes = [ctypes.c_void_p, ctypes.c_ssize_t]
@@ -20,7 +23,7 @@ _resize.argtypes = [ctypes.POINTER(ctypes.c_void_p), ctypes.c_ssize_t]
 _forget = ctypes.pythonapi.Py_DecRef
 _forget.restype = None
 _forget.argtypes = [ctypes.c_void_p]
-_advise = ctypes.CDLL(None).madvise
+_advise = c_library.madvise
 _advise.restype = ctypes.c_int
 _advise.argtypes = [ctypes.c_void_p, ctypes.c_size_t, ctypes.c_int]
 
@@ -80,13 +83,16 @@ class Written:
         if self.filled <= FEW:
             return ctypes.string_at(self.place, self.filled)
         _resize(ctypes.byref(self._held), self.filled)
-        return cast(bytes, ctypes.py_object.from_buffer(self._held).value)
+        text: bytes = ctypes.py_object.from_buffer(self._held).value
+        return text
 
     def _grow(self, room: int) -> None:
         # A zero byte is written after the room, for which no huge page should be made.
         prefer(SMALL_PAGES, self.place, self.room)
         _resize(ctypes.byref(self._held), room + 1)
-        self.place, self.room = cast(int, self._held.value) + HEAD, room
+        held = self._held.value
+        assert held is not None
+        self.place, self.room = held + HEAD, room
         prefer(HUGE_PAGES, self.place, room)
 
     def __del__(self) -> None:
