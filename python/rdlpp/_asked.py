@@ -135,7 +135,11 @@ class Disk:
                 return None
             raise Unreadable(error, False) from error
         try:
-            return self._text(file, parts)
+            small = None if self._tells_files else _small_text(file)
+            if small is None:
+                return self._text(file, parts)
+            self.stays = False
+            return small
         except OSError as error:
             if error.errno is None:
                 raise
@@ -146,11 +150,6 @@ class Disk:
     def _text(self, file: int, parts: Parts) -> bytes | StandingText:
         """What a run can use of an open file, which may grow meanwhile."""
         self.file = None
-        if not self._tells_files:
-            small = _small_text(file)
-            if small is not None:
-                self.stays = False
-                return small
         told = os.fstat(file)
         self.stays = not stat.S_ISREG(told.st_mode)
         if not self.stays:

@@ -53,6 +53,7 @@ class Reading:
         self.fault: Fault | None = None
         # the sources that were opened: by each file the path by which it was opened first, by each other path itself
         self._sources: dict[FileId | bytes, bytes] = {}
+        self._tells_sources = request.tells_sources
         self.text_bytes = 0
         # how many bytes the handle was given beside them
         self._given = len(request.path) + BESIDE
@@ -153,17 +154,15 @@ class Reading:
         try:
             text = asked.text_at(path, parts)
         except Unreadable as unreadable:
-            self._unreadable = path.decode(), unreadable
-            if unreadable.is_open:
-                self._sources.setdefault(asked.file or path, path)
-            _raise_refusal(library.give_failed(self._handle.at, path, len(path)))
+            self._give_failed(path, unreadable)
             return
         finally:
             self._written = None
         if text is None:
             _raise_refusal(library.give_absent(self._handle.at, path, len(path)))
             return
-        self._sources.setdefault(asked.file or path, path)
+        if self._tells_sources:
+            self._sources.setdefault(asked.file or path, path)
         place, length = (text, len(text)) if isinstance(text, bytes) else library.pointer_and_length(text)
         self.text_bytes += length
         # the main text is open up to the end
@@ -177,6 +176,13 @@ class Reading:
         status = give(handle.at, path, handle.path_length, place, handle.text_length)
         if status != library.WHOLE and status != library.CHANGED:
             _raise_refusal(status)
+
+    def _give_failed(self, path: bytes, unreadable: Unreadable) -> None:
+        """Tells the library that a file can't be opened or read."""
+        self._unreadable = path.decode(), unreadable
+        if unreadable.is_open and self._tells_sources:
+            self._sources.setdefault(self._asked.file or path, path)
+        _raise_refusal(library.give_failed(self._handle.at, path, len(path)))
 
     def _lend(self, path: bytes, text: object, place: Any, length: int) -> None:
         """Lends the library a text that stays and never changes, which isn't copied. A handle that has one is closed when this is."""

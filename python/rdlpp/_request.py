@@ -29,6 +29,7 @@ class Request(NamedTuple):
 
     Attributes:
         main: the main text, where it is given and not its path alone.
+        tells_sources: whether the sources are told that were opened.
     """
 
     path: bytes
@@ -38,6 +39,7 @@ class Request(NamedTuple):
     limits: Limits
     origins: bool
     asked: Asked
+    tells_sources: bool
 
 
 def _wrong(name: str, wanted: str, value: object) -> TypeError:
@@ -102,7 +104,7 @@ def _path_objects(files: Mapping[Any, Bytes]) -> dict[str, Any]:
     return {_path_text("a key of files", key): key for key in list(files) if not isinstance(key, str)}
 
 
-def _asked(files: Any, read: Any, limits: Limits, tells_files: bool) -> Asked:
+def _asked(files: Any, read: Any, limits: Limits, tells_sources: bool) -> Asked:
     """Where the sources come from."""
     if files is not None and read is not None:
         raise ValueError("files and read can't both be given")
@@ -114,7 +116,7 @@ def _asked(files: Any, read: Any, limits: Limits, tells_files: bool) -> Asked:
         if not callable(read):
             raise _wrong("read", "a callable from a path to bytes or None", read)
         return given(read)
-    return Disk(limits.source_bytes, limits.line_bytes, tells_files)
+    return Disk(limits.source_bytes, limits.line_bytes, tells_sources)
 
 
 def request_of(
@@ -126,12 +128,12 @@ def request_of(
     files: Mapping[Key, Bytes] | None,
     read: Read | None,
     *,
-    tells_files: bool = True,
+    tells_sources: bool = True,
 ) -> Request:
     """What these arguments ask for.
 
     Args:
-        tells_files: whether it is told in which file each source lies.
+        tells_sources: whether the sources are told that were opened.
 
     Raises:
         TypeError, ValueError, UnicodeError, LimitError: an argument isn't one.
@@ -145,5 +147,5 @@ def request_of(
     if not isinstance(origins, bool):
         raise _wrong("origins", "a bool", origins)
     path, main = _main(source)
-    asked = _asked(files, read, limits, tells_files)
-    return Request(path, main, _folders(include_dirs), _definitions(defines), limits, origins, asked)
+    asked = _asked(files, read, limits, tells_sources)
+    return Request(path, main, _folders(include_dirs), _definitions(defines), limits, origins, asked, tells_sources)

@@ -86,7 +86,7 @@ def preprocess(
         ValueError: an argument can't be used, as a path that UTF-8 can't write.
         MemoryError: memory was refused.
     """
-    request = request_of(source, include_dirs, defines, limits, origins, files, read, tells_files=False)
+    request = request_of(source, include_dirs, defines, limits, origins, files, read, tells_sources=False)
     with Reading(request) as reading:
         text = _read_all(reading, reading.read)
     _raise_fault(reading, text)
