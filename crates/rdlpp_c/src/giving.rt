@@ -173,30 +173,25 @@ fn give_once(alloc: Global, stream: &mut Stream, path: &[u8], text: &[u8]) -> u3
         return BAD_TEXT;
     };
     let mut sources = stream.reading.replace_sources(AskedTexts::empty(alloc));
-    let wanted = sources.wanted;
     let given = stream.once.give(alloc, &mut sources, path, parts, text);
+    note_change(&given, &sources.wanted, path, &mut stream.changed);
     let _empty = stream.reading.replace_sources(sources);
-    stream.changed = changed_path(&given, wanted, path, stream.changed);
     once_status(given)
 }
 
-// The path that was asked for when another text was given of it than before: this one, or one of before.
-fn changed_path(
+// Notes the path that was asked for, where another text was given of it than before.
+fn note_change(
     given: &Result<Given, AllocError>,
-    wanted: Option<ArrayString<1024>>,
+    wanted: &Option<ArrayString<1024>>,
     path: &str,
-    before: Option<ArrayString<1024>>,
-) -> Option<ArrayString<1024>>
-    ensures { result ≡ changed_path given.now wanted path.now before }
+    changed: &mut Option<ArrayString<1024>>,
+)
+    ensures { changed.new ≡ changed_path given.now wanted.now path.now changed.old }
 {
-    let is_asked = match &wanted {
-        Some(wanted) => wanted.as_str() == path,
-        None => false,
-    };
-    if matches!(given, Ok(Given::Other)) && is_asked {
-        wanted
-    } else {
-        before
+    if let (Ok(Given::Other), Some(asked)) = (given, wanted) {
+        if asked.as_str() == path {
+            *changed = Some(*asked);
+        }
     }
 }
 

@@ -169,13 +169,14 @@ impl Stream {
 
     // The path that is asked for, where a read ended with a search that asked.
     #[tactic(auto, unfolding(rdlpp_meaning::specs::Outcome::report_of, rdlpp_state::specs::Steps::is_read_failed))]
-    pub(crate) fn wanted(&self, ending: Option<ReadEnd>) -> Option<ArrayString<1024>>
-        ensures { option_map (λ path. path.bytes) result ≡ read_wanted (ended_with ending self.now.reading.engine.kept) self.now.reading.engine.sources }
+    pub(crate) fn wanted(&self, ending: Option<ReadEnd>) -> Option<&ArrayString<1024>>
+        ensures { option_map (λ path. path.now.bytes) result ≡ read_wanted (ended_with ending self.now.reading.engine.kept) self.now.reading.engine.sources }
     {
+        let wanted = self.reading.engine().sources().wanted.as_ref()?;
         match ended_fault(&self.reading, ending) {
             Some(fault) => {
                 if fault.kind == FaultKind::ReadFailed {
-                    self.reading.engine().sources().wanted
+                    Some(wanted)
                 } else {
                     None
                 }
