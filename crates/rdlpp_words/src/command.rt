@@ -37,20 +37,37 @@ Exit status:
 Example:
   rdlpp -I inc -D WIDTH=8 -o chip.out.rdl chip.rdl";
 
-const ORIGINS_HELP: &str = "Write lines '// origin: NAME:LINE' that tell where text comes from";
-
-const LINE_MAP_HELP: &str =
-    "Write to this file which line of which source each line of the text comes from";
-
-const DEPS_HELP: &str = "Write to this file a rule for make with each source that was opened";
-
-const DEFINITIONS_HELP: &str =
-    "Write to this file the macros that are defined at the end, as define lines";
-
-const NOTES_HELP: &str = "Write lines 'rdlpp: note: ..' after a fault, with what helps to mend it";
-
-/// The options that take a limit, in the order of the fields of `Limits`, each with its help.
-pub(crate) const LIMITS: [(&str, &str); 9] = [
+/// The options in the order of the help, each with its help. Those that take a limit come last, in the order of the fields of `Limits`.
+pub(crate) const OPTIONS: [(&str, &str); 17] = [
+    (
+        DEFINE,
+        "Define a macro, with an empty body where there is no =TEXT; may repeat",
+    ),
+    (
+        FOLDER,
+        "Search this folder for included files, after the including file's own; may repeat",
+    ),
+    (OUTPUT, "Write to this file, in place of standard output"),
+    (
+        ORIGINS,
+        "Write lines '// origin: NAME:LINE' that tell where text comes from",
+    ),
+    (
+        LINE_MAP,
+        "Write to this file which line of which source each line of the text comes from",
+    ),
+    (
+        DEPS,
+        "Write to this file a rule for make with each source that was opened",
+    ),
+    (
+        DEFINITIONS,
+        "Write to this file the macros that are defined at the end, as define lines",
+    ),
+    (
+        NOTES,
+        "Write lines 'rdlpp: note: ..' after a fault, with what helps to mend it",
+    ),
     (
         "max-depth",
         "Most macro bodies and arguments open at once, 1 to 1024 [standard: 256]",
@@ -94,77 +111,47 @@ pub(crate) const LIMITS: [(&str, &str); 9] = [
 /// # Errors
 /// `AllocError` where there was no memory for it.
 pub(crate) fn rdlpp_command<'a>(alloc: Global) -> Result<Command<'a>, AllocError> {
-    let source = Arg::new(alloc, SOURCE)
-        .value_name("SOURCE")
-        .required(true)
-        .action(ArgAction::Set)
-        .value_parser(ValueParser::NonEmptyString)
-        .help("The source; - is standard input");
     let mut command = Command::new(alloc, "rdlpp")
-        .bin_name("rdlpp")?
         .version("0.1.0")
         .about(ABOUT)
         .after_help(AFTER)
-        .arg(source)?
-        .arg(define(alloc))?
-        .arg(folder(alloc))?
-        .arg(output(alloc))?
-        .arg(flag(alloc, ORIGINS, ORIGINS_HELP))?
-        .arg(file(alloc, LINE_MAP, LINE_MAP_HELP))?
-        .arg(file(alloc, DEPS, DEPS_HELP))?
-        .arg(file(alloc, DEFINITIONS, DEFINITIONS_HELP))?
-        .arg(flag(alloc, NOTES, NOTES_HELP))?;
-    for (name, help) in LIMITS {
-        let limit = Arg::new(alloc, name)
-            .long(name)
-            .value_name("N")
-            .action(ArgAction::Set)
-            .value_parser(clap::value_parser!(u64))
-            .help(help);
-        command = command.arg(limit)?;
+        .bin_name("rdlpp")?
+        .arg(source(alloc))?;
+    for (name, help) in OPTIONS {
+        command = command.arg(option_of(alloc, name, help))?;
     }
     Ok(command)
 }
 
-fn define<'a>(alloc: Global) -> Arg<'a> {
-    Arg::new(alloc, DEFINE)
-        .short('D')
-        .value_name("NAME[=TEXT]")
-        .action(ArgAction::Append)
-        .value_parser(ValueParser::NonEmptyString)
-        .help("Define a macro, with an empty body where there is no =TEXT; may repeat")
+/// Whether an option takes a limit.
+pub(crate) fn is_limit(name: &str) -> bool {
+    name.starts_with("max-")
 }
 
-fn folder<'a>(alloc: Global) -> Arg<'a> {
-    Arg::new(alloc, FOLDER)
-        .short('I')
-        .value_name("FOLDER")
-        .action(ArgAction::Append)
-        .value_parser(ValueParser::NonEmptyString)
-        .help("Search this folder for included files, after the including file's own; may repeat")
+fn source<'a>(alloc: Global) -> Arg<'a> {
+    let source = Arg::new(alloc, SOURCE).help("The source; - is standard input");
+    text_of(source.required(true).action(ArgAction::Set), "SOURCE")
 }
 
-fn output<'a>(alloc: Global) -> Arg<'a> {
-    Arg::new(alloc, OUTPUT)
-        .short('o')
-        .value_name("FILE")
-        .action(ArgAction::Set)
-        .value_parser(ValueParser::NonEmptyString)
-        .help("Write to this file, in place of standard output")
+fn option_of<'a>(alloc: Global, name: &'static str, help: &'static str) -> Arg<'a> {
+    let option = Arg::new(alloc, name).help(help);
+    match name {
+        DEFINE => text_of(option.short('D').action(ArgAction::Append), "NAME[=TEXT]"),
+        FOLDER => text_of(option.short('I').action(ArgAction::Append), "FOLDER"),
+        OUTPUT => text_of(option.short('o').action(ArgAction::Set), "FILE"),
+        ORIGINS | NOTES => option.long(name).action(ArgAction::SetTrue),
+        LINE_MAP | DEPS | DEFINITIONS => text_of(option.long(name).action(ArgAction::Set), "FILE"),
+        _ => option
+            .long(name)
+            .value_name("N")
+            .action(ArgAction::Set)
+            .value_parser(clap::value_parser!(u64)),
+    }
 }
 
-fn file<'a>(alloc: Global, name: &'a str, help: &'a str) -> Arg<'a> {
-    Arg::new(alloc, name)
-        .long(name)
-        .value_name("FILE")
-        .action(ArgAction::Set)
+// A thing that takes a text, which isn't empty and is called so by the help.
+fn text_of<'a>(taking: Arg<'a>, name: &'static str) -> Arg<'a> {
+    taking
+        .value_name(name)
         .value_parser(ValueParser::NonEmptyString)
-        .help(help)
-}
-
-fn flag<'a>(alloc: Global, name: &'a str, help: &'a str) -> Arg<'a> {
-    Arg::new(alloc, name)
-        .long(name)
-        .action(ArgAction::SetTrue)
-        .help(help)
 }

@@ -6,7 +6,7 @@ ghost use Rattle.rdlpp_define.specs.Limits.{AreInRange};
 ghost use Rattle.rdlpp_words.specs.declared.invocation.UsageFault.TheVariants.{NoMemory};
 
 use crate::command::{
-    DEFINE, DEFINITIONS, DEPS, FOLDER, LIMITS, LINE_MAP, NOTES, ORIGINS, OUTPUT, SOURCE,
+    DEFINE, DEFINITIONS, DEPS, FOLDER, LINE_MAP, NOTES, OPTIONS, ORIGINS, OUTPUT, SOURCE, is_limit,
     rdlpp_command,
 };
 use clap::error::ErrorKind;
@@ -101,8 +101,8 @@ fn read_matches(
 ) -> Result<Invocation, UsageFault>
     ensures { IfOk result (λ invocation. AreInRange invocation.options.limits) }
 {
-    for (name, _) in LIMITS {
-        if matches.get_str(name).unwrap_or("").starts_with('+') {
+    for (name, _) in OPTIONS {
+        if is_limit(name) && matches.get_str(name).unwrap_or("").starts_with('+') {
             return Err(refusal(alloc, command, "a limit is a number without a sign"));
         }
     }
@@ -119,10 +119,13 @@ fn usage_fault(alloc: Global, error: &Error) -> UsageFault {
     if error.kind() == ErrorKind::OutOfMemory {
         return UsageFault::NoMemory;
     }
-    match error.to_string(alloc) {
-        Ok(text) if error.use_stderr() => UsageFault::Bad(text),
-        Ok(text) => UsageFault::Help(text),
-        Err(_) => UsageFault::NoMemory,
+    let Ok(text) = error.to_string(alloc) else {
+        return UsageFault::NoMemory;
+    };
+    if error.use_stderr() {
+        UsageFault::Bad(text)
+    } else {
+        UsageFault::Help(text)
     }
 }
 
