@@ -1,5 +1,6 @@
 // Outputs that go on: a run after one that stopped, and reads over steps without bytes.
 use crate::devices::{DealtTexts, Devices, WHOLE};
+use crate::spelling::numbered;
 use rdlpp::{Counted, Limits, OpenSource, Placed, Sources, Table, Texts, Watcher};
 use rdlpp_expand::{Engine, Reading, run, run_watched};
 use std::alloc::{AllocError, Global};
@@ -127,8 +128,7 @@ fn comes_back_between_bytes(alloc: Global) -> Result<bool, AllocError> {
 fn bytes_after_doublings(alloc: Global) -> Result<Vec<u8>, AllocError> {
     let mut source = Vec::from_slice(alloc, b"`define E0\n")?;
     for number in 0..10_u32 {
-        let next = number.saturating_add(1);
-        let line = format!(in alloc; "`define E{next} `E{number}`E{number}\n")?;
+        let line = numbered(alloc, "`define E{+} `E{#}`E{#}\n", number)?;
         source.extend_from_slice(line.as_bytes())?;
     }
     for _ in 0..50 {
