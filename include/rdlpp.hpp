@@ -1,5 +1,5 @@
 /*
- * rdlpp.hpp: the preprocessor for SystemRDL for C++17, over rdlpp.h. There is no code but in this header.
+ * rdlpp.hpp: the preprocessor for SystemRDL for C++17, over rdlpp.h. All of it is this header: link the library for C with it.
  *
  *     rdlpp::request request;
  *     request.path = "top.rdl";
@@ -21,6 +21,10 @@
  */
 #ifndef RDLPP_HPP
 #define RDLPP_HPP
+
+#if __cplusplus < 201703L && !(defined _MSVC_LANG && _MSVC_LANG >= 201703L)
+#error "rdlpp.hpp needs C++17"
+#else
 
 #include "rdlpp.h"
 
@@ -444,4 +448,5 @@ inline std::string preprocess(const request &given)
 
 } // namespace rdlpp
 
+#endif
 #endif
