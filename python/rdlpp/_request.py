@@ -10,13 +10,20 @@ from ._light import TYPE_CHECKING, NamedTuple
 from ._limits import Limits
 
 if TYPE_CHECKING:
-    from typing import Any, Callable, Optional, TypeVar, Union
+    from typing import AbstractSet, Any, Callable, Optional, Protocol, TypeVar, Union
 
     from ._asked import Bytes
 
     Path = Union[str, os.PathLike[str]]
-    # The keys of one mapping: texts, path objects, or both.
-    Key = TypeVar("Key", bound=Path)
+    Key = TypeVar("Key", covariant=True)
+    Value = TypeVar("Value", covariant=True)
+
+    class MappingFrom(Protocol[Key, Value]):
+        """A mapping. `MappingFrom[Path, Bytes]` takes keys that are texts, path objects or both; `Mapping[Path, Bytes]`
+        takes only a mapping whose keys are said to be either."""
+
+        def items(self) -> AbstractSet[tuple[Key, Value]]: ...
+
     Source = Union[Bytes, Path]
     Read = Callable[[str], Optional[Bytes]]
 
@@ -125,7 +132,7 @@ def request_of(
     defines: Mapping[str, str] | None,
     limits: Limits | None,
     origins: bool,
-    files: Mapping[Key, Bytes] | None,
+    files: MappingFrom[Path, Bytes] | None,
     read: Read | None,
     *,
     tells_sources: bool = True,

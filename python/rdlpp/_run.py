@@ -13,7 +13,7 @@ if TYPE_CHECKING:
 
     from ._asked import Bytes
     from ._limits import Limits
-    from ._request import Key, Path, Read, Source
+    from ._request import MappingFrom, Path, Read, Source
 
 # How much one read asks for: it comes back soon, mostly in milliseconds, so that a signal is seen.
 PART = 131_072
@@ -50,7 +50,7 @@ def preprocess(
     limits: Limits | None = None,
     origins: bool = False,
     *,
-    files: Mapping[Key, Bytes] | None = None,
+    files: MappingFrom[Path, Bytes] | None = None,
     read: Read | None = None,
 ) -> bytes:
     """Preprocesses a text and answers the output.
@@ -100,7 +100,7 @@ def run(
     defines: Mapping[str, str] | None = None,
     limits: Limits | None = None,
     origins: bool = False,
-    files: Mapping[Key, Bytes] | None = None,
+    files: MappingFrom[Path, Bytes] | None = None,
     read: Read | None = None,
 ) -> Output:
     """Preprocesses a text and answers the output with its lines, sources and definitions.

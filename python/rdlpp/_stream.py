@@ -17,7 +17,7 @@ if TYPE_CHECKING:
     from ._asked import Bytes
     from ._limits import Limits
     from ._output import Position
-    from ._request import Key, Path, Read, Source
+    from ._request import MappingFrom, Path, Read, Source
 
     _Pieces = Iterator[bytes]
     _AwaitedPieces = AsyncIterator[bytes]
@@ -183,7 +183,7 @@ def stream(
     limits: Limits | None = None,
     origins: bool = False,
     *,
-    files: Mapping[Key, Bytes] | None = None,
+    files: MappingFrom[Path, Bytes] | None = None,
     read: Read | None = None,
     room: int = PART,
     positions: bool = False,
