@@ -4,7 +4,7 @@
 
 The compiler is called with its words and then the path of a file that has the preprocessed text. Where its standard error
 names a line of that file, as `FILE:LINE`, the place in the source stands there: of text that a macro gives that of the
-usage. The status is the compiler's, and 1 where the text has a fault.
+usage. The status is the compiler's, and 1 where the text has a fault or the compiler can't be called.
 
     python3 in_front.py timer.rdl -- python3 stand_in_compiler.py
 """
@@ -37,6 +37,7 @@ def compile_file(compiler: Sequence[str], source: str, **asked: Any) -> int:
 
     Raises:
         rdlpp.Fault: the text has a fault; the compiler isn't called.
+        OSError: the compiler can't be called, or the file for it can't be written.
     """
     output = rdlpp.run(source, **asked)
     with tempfile.NamedTemporaryFile(suffix=".rdl") as file:
@@ -59,7 +60,9 @@ def main() -> int:
         return compile_file(given.compiler, given.source, include_dirs=given.folders, defines=defines)
     except rdlpp.Fault as fault:
         print(fault, *fault.notes, sep="\n", file=sys.stderr)
-        return 1
+    except OSError as error:
+        print(f"in_front.py: {error}", file=sys.stderr)
+    return 1
 
 
 if __name__ == "__main__":

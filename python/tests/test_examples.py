@@ -35,14 +35,13 @@ class Fields(unittest.TestCase):
 
 
 class InFront(unittest.TestCase):
-    def run_example(self, *words):
+    def run_example(self, *words, compiler=(sys.executable, str(EXAMPLES / "stand_in_compiler.py"))):
         """What the example tells of these files, in a scratch folder."""
         with tempfile.TemporaryDirectory() as folder:
             for path, text in FILES.items():
                 file = pathlib.Path(folder, path)
                 file.parent.mkdir(exist_ok=True)
                 file.write_text(text)
-            compiler = [sys.executable, str(EXAMPLES / "stand_in_compiler.py")]
             done = subprocess.run(
                 [sys.executable, str(EXAMPLES / "in_front.py"), *words, "timer.rdl", "--", *compiler],
                 cwd=folder, capture_output=True, text=True, timeout=60,
@@ -66,6 +65,11 @@ class InFront(unittest.TestCase):
         status, fields, errors = self.run_example("-I", "inc")
         self.assertEqual((status, fields), (1, ""))
         self.assertEqual(errors.splitlines()[0], "timer.rdl:9: error F7: undefined macro 'BASE'")
+
+    def test_a_compiler_that_is_not_there(self):
+        status, fields, errors = self.run_example("-I", "inc", "-D", "BASE=0x0", compiler=["no-compiler"])
+        self.assertEqual((status, fields), (1, ""))
+        self.assertEqual(errors, "in_front.py: [Errno 2] No such file or directory: 'no-compiler'\n")
 
     def test_lines_that_are_none(self):
         led_back = example("in_front").led_back
