@@ -68,7 +68,7 @@ uninstall: ## take away what `make install` put below PREFIX
 	cd '$(to)' && rm -f bin/rdlpp share/man/man1/rdlpp.1 include/rdlpp.h include/rdlpp.hpp lib/librdlpp_c.a \
 		lib/$(shared).$(VERSION) lib/$(soname) lib/$(shared) lib/pkgconfig/rdlpp.pc
 
-dist: out/rdlpp out/librdlpp_c.a ## make packages in out/: the committed sources, the wheel, and where there is dpkg-deb a Debian package
+dist: out/rdlpp out/librdlpp_c.a ## make packages in out/: in a git checkout the committed sources, the wheel, and where there is dpkg-deb a Debian package
 	@packaging/source
 	@python3 python/wheel_backend.py out
 	@packaging/debian
