@@ -94,7 +94,10 @@ private:
     std::shared_ptr<const rdlpp::fault> stopped_;
 };
 
-/* What a reader of sources throws of a source that can't be read: the output ends by RDLPP_FAULT_READ_FAILED. */
+/*
+ * What a reader of sources throws of a source that can't be read: the output ends by RDLPP_FAULT_READ_FAILED, and the first of its
+ * notes is "rdlpp: note: PATH: ", what() and an LF.
+ */
 struct unreadable : std::runtime_error {
     using std::runtime_error::runtime_error;
 };
@@ -224,6 +227,7 @@ public:
         read_.swap(read);
         reads_again_ = given.reads_again;
         wanted_.reset();
+        failure_.clear();
         is_done_ = false;
         stopped_.reset();
         const rdlpp_outcome outcome =
@@ -344,7 +348,8 @@ private:
     rdlpp::fault fault_of(const rdlpp_outcome &outcome)
     {
         const auto kind = static_cast<fault_kind>(outcome.number);
-        return {kind, {name_, outcome.name_length}, outcome.line, {word_, outcome.word_length}, whole(rdlpp_notes)};
+        std::string notes = failure_ + whole(rdlpp_notes);
+        return {kind, {name_, outcome.name_length}, outcome.line, {word_, outcome.word_length}, std::move(notes)};
     }
 
     /* Takes what a read answered: keeps the path of a source that is asked for, or how the output ended. */
@@ -376,7 +381,8 @@ private:
             const auto give = reads_again_ ? rdlpp_give_once : rdlpp_give;
             outcome.status = text ? give(open, path.data(), path.size(), text->data(), text->size())
                                   : rdlpp_give_absent(open, path.data(), path.size());
-        } catch (const unreadable &) {
+        } catch (const unreadable &thrown) {
+            failure_ = "rdlpp: note: " + path + ": " + thrown.what() + "\n";
             outcome.status = rdlpp_give_failed(open, path.data(), path.size());
         }
         detail::refuse(outcome);
@@ -387,6 +393,7 @@ private:
     reader read_;
     bool reads_again_ = false;
     std::optional<std::string> wanted_;
+    std::string failure_; /* the note on the source that can't be read, if the output ended by it */
     bool is_done_ = false;
     std::optional<rdlpp::fault> stopped_;
     char name_[1024];

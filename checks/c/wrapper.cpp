@@ -112,6 +112,7 @@ void asks_for_sources()
     };
     const rdlpp::result made = rdlpp::run(request);
     check(made.text == "a\n" && made.stopped && made.stopped->kind == RDLPP_FAULT_READ_FAILED, "a source that can't be read");
+    check(made.stopped->notes == "rdlpp: note: i: no\n", "its path and its reason");
 }
 
 // What a callable throws comes through, and the stream goes on where the next call doesn't throw.

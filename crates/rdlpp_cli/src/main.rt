@@ -19,7 +19,7 @@ use reports::run_told;
 use std::alloc::AllocError;
 use std::io::Write;
 use std::process::ExitCode;
-use telling::{tell_fault, tell_unopened};
+use telling::{tell_fault, tell_unopened, tell_unwritten};
 use words::read_invocation;
 
 // The bytes of the buffer in front of the output, past which longer pieces go: half a line of the standard limit, so that a
@@ -70,7 +70,10 @@ fn tell_usage(rt: &HostRuntime, fault: &UsageFault) -> u8
     match fault {
         UsageFault::Help(text) => match rt.stdout().write_all(text.as_bytes()) {
             Ok(()) => 0,
-            Err(_) => DEVICE_STATUS,
+            Err(error) => {
+                tell_unwritten(rt, "standard output", &error);
+                DEVICE_STATUS
+            }
         },
         UsageFault::Bad(text) => {
             let _told = rt.stderr().write_all(text.as_bytes());

@@ -149,7 +149,7 @@ fn option_of<'a>(alloc: Global, name: &'static str, help: &'static str) -> Arg<'
     }
 }
 
-// A thing that takes a text, which isn't empty and is called so by the help.
+// An argument that takes a text which isn't empty, and which the help calls so.
 fn text_of<'a>(taking: Arg<'a>, name: &'static str) -> Arg<'a> {
     taking
         .value_name(name)
