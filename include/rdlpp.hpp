@@ -375,6 +375,7 @@ private:
             return;
         }
         const std::string &path = *wanted_;
+        failure_.clear();
         rdlpp_outcome outcome{};
         try {
             const std::optional<std::string> text = read_(path);
