@@ -96,6 +96,10 @@ one_further false = omega arith
 pub one_more : (n m : ℕ) → m ≤ 1 → n + m ≤ n + 1
 one_more n m few = omega (arith, few)
 
+-- and no fewer are allowed where more is taken from what is left
+pub still_one_more : (all left cost m : ℕ) → m ≤ 1 → (all - left) + m ≤ all - (left - cost) + 1
+still_one_more all left cost m few = omega (arith, few)
+
 -- what is left falls by more than the further parts of a step that costs more
 pub spent_more : (all left cost parts : ℕ) → left ≤ all → parts < cost → cost ≤ left → (all - left) + parts < all - (left - cost)
 spent_more all left cost parts inside less room = omega (arith, inside, less, room)

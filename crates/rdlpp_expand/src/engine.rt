@@ -176,7 +176,7 @@ impl<S: Sources> Engine<S> {
     }
 
     // The step of `next`: goes on to the next piece, cut to what the limit on the output leaves, and answers where it stands.
-    // The steps on the way that come to no bytes are taken from what is left for them, and so is a call that is read after the
+    // The steps on the way that come to no bytes are taken from what is left for them, and so is a text that is opened after the
     // piece. Where that is too little for a step, the piece is that of no LF bytes that are pending.
     pub(crate) fn advance(&mut self, left: &mut usize) -> PieceLocation
         requires started { IsStarted self.old }
@@ -186,10 +186,7 @@ impl<S: Sources> Engine<S> {
         ensures steps { Step S.Sources self.old self.new (lent_answer self.new result) }
     {
         match self.walk(left) {
-            Some(place) => {
-                self.charge(left);
-                self.clip_to_quota(place)
-            }
+            Some(place) => self.clip_to_quota(place),
             None => {
                 self.facts();
                 PieceLocation::Pending(NO_BYTES)
@@ -251,10 +248,12 @@ impl<S: Sources> Engine<S> {
     {
         loop {
             let in_texts = self.is_in_texts();
+            let depth = self.expansion.len();
             if let Some(place) = self.step(in_texts) {
+                *left = left.saturating_sub(self.opened_bytes(depth));
                 return Some(place);
             }
-            let cost = self.cost(in_texts);
+            let cost = self.cost(in_texts, depth);
             if *left < cost {
                 return None;
             }

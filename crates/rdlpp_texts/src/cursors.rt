@@ -26,7 +26,6 @@ use crate::step::CursorStep;
 use rdlpp_table::{MacroId, Table};
 use std::alloc::{AllocError, Global};
 use std::marker::Model;
-use std::mem;
 
 mod formal;
 mod opening;
@@ -50,8 +49,6 @@ pub struct Cursors {
     // the ranges that the calls of the open bodies have bound, those of the innermost last
     bindings: Vec<Range>,
     line: u64,
-    // how many bytes the call has that was read last, until they are told
-    read: usize,
     hints: LookupHints,
 }
 
@@ -98,7 +95,6 @@ impl Cursors {
             depth,
             bindings,
             line: 0,
-            read: 0,
             hints: NO_HINTS,
         })
     }
@@ -110,7 +106,6 @@ impl Cursors {
         self.first = self.frames.len();
         self.bindings.clear();
         self.line = 0;
-        self.read = 0;
         self.hints = NO_HINTS;
     }
 
@@ -152,14 +147,6 @@ impl Cursors {
     {
         let _first = self.first;
         self.bindings.len()
-    }
-
-    /// How many bytes the call has that was read last in an open text, if one was and it wasn't told yet; else 0.
-    #[inline(always)]
-    pub fn take_read(&mut self) -> usize
-        ensures { self.new ≡ self.old }
-    {
-        mem::take(&mut self.read)
     }
 
     // Whether as many texts are open as may be.

@@ -132,14 +132,6 @@ impl Expansion {
         self.texts.innermost()
     }
 
-    /// How many bytes the call has that the last step read in an open text, if it read one and that wasn't told yet; else 0.
-    #[inline(always)]
-    pub fn take_read(&mut self) -> usize
-        ensures { self.new ≡ self.old }
-    {
-        self.texts.take_read()
-    }
-
     /// What always holds of it.
     pub fn facts(&self)
         ensures { IsRoomy self.now }

@@ -12,27 +12,37 @@ const LINE_COST: usize = 256;
 const USAGE_COST: usize = 16;
 
 impl<S: Sources> Engine<S> {
-    // What the step costs that was taken last and came to no bytes. That of a `define`, of skipped text and of a call rises with
-    // the bytes that they have. A `define` is then no news any more.
-    pub(super) fn cost(&mut self, in_texts: bool) -> usize
+    // What the step costs that was taken last and came to no bytes, where so many texts were open before it. That of a `define`, of
+    // skipped text, of a call in a source and of a text that is opened rises with the bytes that they have. A `define` is then no news
+    // any more.
+    pub(super) fn cost(&mut self, in_texts: bool, depth: usize) -> usize
         ensures parts { further_parts in_texts < result }
         ensures same { self.new ≡ self.old }
     {
+        let opened = self.opened_bytes(depth);
         if in_texts {
-            self.expansion.take_read().saturating_add(1)
+            opened.saturating_add(1)
         } else if self.expansion.is_empty() {
             self.defined = None;
             mem::take(&mut self.taken).saturating_add(LINE_COST)
         } else {
-            self.expansion.arguments().len().saturating_add(USAGE_COST)
+            self.expansion
+                .arguments()
+                .len()
+                .saturating_add(opened)
+                .saturating_add(USAGE_COST)
         }
     }
 
-    // Takes what a call costs that was read after the piece of an open text from what is left, or all of that.
-    pub(super) fn charge(&mut self, left: &mut usize)
-        ensures same { self.new ≡ self.old }
-        ensures left { left.new ≤ left.old }
-    {
-        *left = left.saturating_sub(self.expansion.take_read());
+    // How many bytes the text has that the last step opened, where so many were open before it; 0 where it opened none. A call in it
+    // is read once for each time that it is opened.
+    pub(super) fn opened_bytes(&self, depth: usize) -> usize {
+        if self.expansion.len() <= depth {
+            return 0;
+        }
+        match self.expansion.innermost() {
+            Some(place) => place.end.saturating_sub(place.from),
+            None => 0,
+        }
     }
 }

@@ -131,7 +131,6 @@ impl Cursors {
             self.bindings.truncate(bound);
             return Opening::Deep;
         }
-        self.read = following - at;
         self.frames[first].from = following;
         let place = free_frame(&mut self.frames, first, self.depth);
         self.frames[place] = Frame {
