@@ -10,7 +10,8 @@ pub step-requires-clause-started : goal.step-requires-clause-started
 step-requires-clause-started g c = passes_started g.S.Sources _ _ _ c.requires c.loop-place.invariant.1
 
 pub returns-in-Some-clause-uncut_step : goal.returns-in-Some-clause-uncut_step
-returns-in-Some-clause-uncut_step g c = passes_on g.S.Sources _ _ _ _ _ _ _ (still_one_more _ _ _ _ (one_further _)) c.loop-place.invariant.1 c.in-Some.ensures.uncut_step
+returns-in-Some-clause-uncut_step g c =
+    rw c.saturating_sub.ensures (passes_on g.S.Sources _ _ _ _ _ _ _ (still_one_more _ _ _ _ (one_further _)) c.loop-place.invariant.1 c.in-Some.ensures.uncut_step)
 
 pub returns-then-left-cost-clause-uncut_step : goal.returns-then-left-cost-clause-uncut_step
 returns-then-left-cost-clause-uncut_step g c =
