@@ -1,8 +1,8 @@
 -- A formal list as it is read, and its formals as they are appended to a table's bytes.
-use Rattle.std.proofs.Common.{◌≡◌, ℕ, zero, suc, ◌+◌, ◌-◌, ◌<◌, Bool, true, false, cond, not, ◌||◌, List, [], ◌∷◌, ◌++◌, length, map, take, drop, get_or, eqb, ltb, leb, bytes_eq, sum_by, unwrap_or, length-append, Option, Some, None, refl, ap, sym, ◌∙◌, arith, inl, inr, ◌⊎◌, one-add, ◌≤◌, is_some, append_assoc, append-nil, eq-eqb, Ok, flat_map, eqb-true, leb-true, leb-false, ne_eqb}
+use Rattle.std.proofs.Common.{◌≡◌, ℕ, zero, suc, ◌+◌, ◌-◌, ◌<◌, Bool, true, false, cond, not, ◌||◌, List, [], ◌∷◌, ◌++◌, length, map, set, take, drop, get_or, eqb, ltb, leb, bytes_eq, sum_by, unwrap_or, length-append, Option, Some, None, refl, ap, sym, ◌∙◌, arith, inl, inr, ◌⊎◌, one-add, ◌≤◌, is_some, append_assoc, append-nil, eq-eqb, Ok, flat_map, eqb-true, leb-true, leb-false, ne_eqb}
 use Rattle.std.specs.List.{list_any, list_all, prefix_len}
 use Rattle.std.proofs.lemmas.Bool.{both_ways, cases_Bool, cond-false, and_from, false_from_ne_true, cond-true, false≢true}
-use Rattle.std.proofs.lemmas.List.{map-append, length-map}
+use Rattle.std.proofs.lemmas.List.{map-append, length-map, length-set, length-take-le, take_more_set}
 use Rattle.std.proofs.lemmas.List.Folds.{list_all-append}
 use Rattle.std.proofs.lemmas.List.Sums.{sum_by-append}
 use Rattle.std.proofs.lemmas.Grind.{flat_map-append}
@@ -288,20 +288,15 @@ unfolding fault_after
 fault_by f xs name a b c d i j k m = grind (arith, any_mapped, length-map)
 
 -- one more name
-pub names_more : {X : Type 0} (f : X → List ℕ) (xs ys : List X) (x : X) → ys ≡ xs ++ x ∷ [] → map f ys ≡ map f xs ++ f x ∷ []
-names_more f xs ys x e = ap (map f) e ∙ map-append f xs (x ∷ [])
+pub names_more : {X : Type 0} (f : X → List ℕ) (xs : List X) (count : ℕ) (x : X) → count < length xs → map f (take (count + 1) (set xs count x)) ≡ map f (take count xs) ++ f x ∷ []
+names_more f xs count x inside = ap (map f) (take_more_set xs count x inside) ∙ map-append f (take count xs) (x ∷ [])
 
-pub same_slice : {X : Type 0} (f : X → List ℕ) (xs ys : List X) → xs ≡ ys → map f xs ≡ map f ys
-same_slice f xs ys e = ap (map f) e
+pub count_more : {X : Type 0} (f : X → List ℕ) (xs : List X) (count : ℕ) (x : X) → count < length xs → count + 1 ≡ length (map f (take (count + 1) (set xs count x)))
+count_more f xs count x inside =
+    omega (arith, length-map (take (count + 1) (set xs count x)) f, length-take-le (count + 1) (set xs count x) (omega (arith, inside, length-set xs count x)))
 
-pub same_count : {X : Type 0} (f : X → List ℕ) (xs : List X) (n : ℕ) → length (map f xs) < n → length xs < n
-same_count f xs n h = omega (arith, length-map xs f)
-
-pub closer_count : {X : Type 0} (f : X → List ℕ) (xs : List X) (n : ℕ) → n ≡ length xs → n ≡ length (map f xs)
-closer_count f xs n e = e ∙ sym (length-map xs f)
-
-pub no_names : {X : Type 0} (f : X → List ℕ) (xs : List X) → xs ≡ [] → map f xs ≡ []
-no_names f xs e = ap (map f) e
+pub few_slots : {X : Type 0} (f : X → List ℕ) (xs : List X) (count most : ℕ) → length xs ≡ most → count ≤ most → length (map f (take count xs)) < most → count < most
+few_slots f xs count most long inside few = omega (arith, length-map (take count xs) f, length-take-le count xs (omega (arith, long, inside)), few)
 
 -- Formals that are appended to a table's bytes, one after another.
 

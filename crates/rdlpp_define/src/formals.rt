@@ -32,7 +32,6 @@ ghost use Rattle.rdlpp_define.specs.Macros.{formal_bytes, formal_size, Formal};
 use crate::fault::DefineKind;
 use crate::header::{after_space, leading_name};
 use crate::name::MOST_NAME_BYTES;
-use arrayvec::ArrayVec;
 use rdlpp_scan::{append_part, append_trimmed, split_first, trimmed_len};
 
 // The most formals of a macro (this project's profile).
@@ -138,25 +137,27 @@ pub(crate) struct ReadList<'a> {
 fn read_some(text: &[u8]) -> Result<ReadList<'_>, DefineKind>
     ensures read { MatchResult result (λ read. (formals : List Formal) × IsRead (formals_in 255 [] (as_read true text.now)) (as_read true read.following.now) read.count read.size formals) (λ kind. formals_in 255 [] (as_read true text.now) ≡ FormalListFault kind) }
 {
-    let mut names: ArrayVec<&[u8], MOST_FORMALS> = ArrayVec::new();
+    let mut names: [&[u8]; MOST_FORMALS] = [&[]; MOST_FORMALS];
+    let mut count = 0;
     let mut rest = text;
     let mut size = 0;
     loop {
         let part = first_part(rest);
-        if let Some(kind) = formal_fault(names.as_slice(), part.name) {
+        if let Some(kind) = formal_fault(&names[..count], part.name) {
             return Err(kind);
         }
         let Some(default) = default_in(part.following) else {
             return Err(DefineKind::BadFormals);
         };
-        names.push(part.name);
+        names[count] = part.name;
+        count += 1;
         size += part.name.len() + default.size + 1;
         let Some((b, following)) = split_first(default.following, true) else {
             return Err(DefineKind::BadFormals);
         };
         if b == b')' {
             return Ok(ReadList {
-                count: names.len(),
+                count,
                 size,
                 following,
             });
