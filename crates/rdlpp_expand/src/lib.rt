@@ -7,7 +7,6 @@ mod watching;
 mod writing;
 
 pub use engine::{Engine, READ_ALLOWANCE};
-pub use rdlpp_laws as laws;
 pub use rdlpp_meaning::{Fault, FaultKind};
 pub use rdlpp_state::{
     Held, LineStep, NewFault, OpenSource, Piece, Placed, Position, Unwatched, Watcher, fault_kind,
