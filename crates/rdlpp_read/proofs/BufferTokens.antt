@@ -1,9 +1,9 @@
 -- The tokens that remain of an open source, as its window moves, and as sources open and close.
 use Rattle.std.proofs.Common.{◌≡◌, ◌==◌, true, ℕ, ◌+◌, List, [], ◌++◌, length, take, drop, refl, sym, ap, ◌∙◌, append_assoc, arith, ◌-◌, ◌≤◌, ◌<◌, None, Some, subst, inl, inr, suc, ◌*◌, ◌^◌, Bool, not, ◌∷◌, map, reverse, sum_by, get_or, add-one, All, length-set, set, mul-le-mul_right, append-nil, drop-drop, length-append, length-drop, length-take-le, take-append-drop, take-take}
-use Rattle.std.proofs.Math.Seq.{drop-nil}
-use Rattle.std.proofs.lemmas.List.{drop-set, drop-take, get_or-drop, reverse-append, take-set, take_more_set}
+use Rattle.std.proofs.Math.Seq.{drop-cons, drop-nil}
+use Rattle.std.proofs.lemmas.List.{drop-set, drop-set-lt, drop-take, get_or-drop, reverse-append, take-set, take_more_set}
 use Rattle.std.proofs.lemmas.List.Elements.{All-append, All-cons, All-drop, All-get_or, All-head, All-nil, All-same, All-set, All-tail, All-take}
-use Rattle.std.proofs.lemmas.List.Sums.{sum_by-append, sum_by-cons, sum_by_more_le}
+use Rattle.std.proofs.lemmas.List.Sums.{sum_by-append, sum_by-cons, sum_by_more, sum_by_more_le}
 use Rattle.rdlpp_scan.specs.Bytes.{is_line_end}
 use Rattle.rdlpp_scan.specs.Front.{Break, front}
 use Rattle.rdlpp_scan.specs.Lines.{EndsLine, whole_lines_len}
@@ -12,8 +12,9 @@ use Rattle.rdlpp_scan.specs.declared.token.Mode.{Mode}
 use Rattle.rdlpp_scan.specs.declared.token.Mode.TheVariants.{Plain}
 use Rattle.rdlpp_scan.proofs.SourceLaws.{IsWholeLines-drop, front-line_long, front-none, front-source_long}
 use Rattle.rdlpp_scan.proofs.RemainingLaws.{remaining-accept}
-use Rattle.rdlpp_read.specs.Buffer.{BufferView, EndsHeld, Gains, MovesOver, Slides, ahead_of, closed_buffer, entered_mode, held_of, rest_of, text_left, tokens_left, unread_of, unused_of}
-use Rattle.rdlpp_read.specs.Files.{AreOpen, AreSlots, FilesView, IsClosed, IsSlot, held_bytes, held_windows, inner_buffer, source_digits, ends_mid_line_after}
+use Rattle.rdlpp_source.specs.declared.sources.Found.{Found}
+use Rattle.rdlpp_read.specs.Buffer.{BufferView, EndsHeld, Gains, MovesOver, Slides, ahead_of, closed_buffer, entered_mode, held_of, opened_buffer, rest_of, text_left, tokens_left, unread_of, unused_of}
+use Rattle.rdlpp_read.specs.Files.{AreOpen, AreSlots, FilesView, IsClosed, IsSlot, entered_file, held_bytes, held_windows, inner_buffer, source_digits, ends_mid_line_after, with_buffer, with_inner}
 use Rattle.rdlpp_read.specs.Filling.{Fills, Grows, GrowsBy, HasBytes, IsExact, Lengthens, Stays, TellsTokens, ended_tokens, only_broken}
 use Rattle.rdlpp_read.specs.declared.buffer.filling.Fill.{Fill}
 use Rattle.rdlpp_read.specs.declared.buffer.filling.Fill.TheVariants.{End, Failed, Held, LineLong, SourceLong}
@@ -335,6 +336,30 @@ inner-slot first slots f some is = inner-first (drop first slots) f some (grind 
 pub inner-set : {R : Type 0} (first : ℕ) (slots : List (File R)) (f : File R) → 0 < length (drop first slots) → inner_buffer (drop first (set slots first f)) ≡ f.buffer
 inner-set first slots f some = ap inner_buffer (drop-set slots first f (some-open first slots some))
 
+-- the open sources, where the innermost one changed
+pub inner-changed : {R : Type 0} (first : ℕ) (slots : List (File R)) (change : File R → File R) (old new : File R) → 0 < length (drop first slots) → old ≡ get_or slots first old → new ≡ change old →
+    drop first (set slots first new) ≡ with_inner change (drop first slots)
+inner-changed first slots change old new some is becomes =
+    let more = some-open first slots some in
+    let next : first + 1 ≡ suc first = omega arith in
+    let cut : drop first slots ≡ old ∷ drop (first + 1) slots = drop-cons slots first old more ∙ (ap (λ f. f ∷ drop (suc first) slots) (sym is) ∙ ap (λ n. old ∷ drop n slots) (sym next)) in
+    drop-set slots first new more ∙ (ap (λ f. f ∷ drop (first + 1) slots) becomes ∙ sym (ap (with_inner change) cut))
+
+-- the same, where its buffer alone changed
+pub inner-buffered : {R : Type 0} (first : ℕ) (slots : List (File R)) (old : File R) (left right : BufferView R) → 0 < length (drop first slots) → old ≡ get_or slots first old → left ≡ right →
+    drop first (set slots first (record old { buffer = left })) ≡ with_buffer right (drop first slots)
+inner-buffered first slots old left right some is same =
+    inner-changed first slots (λ f. record f { buffer = right }) old (record old { buffer = left }) some is (ap (λ b. record old { buffer = b }) same)
+
+-- the open sources without the innermost one, whose slot changed
+pub inner-left : {R : Type 0} (first : ℕ) (slots : List (File R)) (new : File R) → drop (first + 1) (set slots first new) ≡ drop 1 (drop first slots)
+inner-left first slots new = drop-set-lt (first + 1) slots first new (omega arith) ∙ sym (drop-drop 1 first slots)
+
+-- the same open sources, in the same room
+pub same-files : {R : Type 0} (left right : List (File R)) (slots line_bytes : ℕ) → left ≡ right →
+    ◌≡◌ {A = FilesView R} (record { include_stack = left; slots = slots; line_bytes = line_bytes }) (record { include_stack = right; slots = slots; line_bytes = line_bytes })
+same-files left right slots line_bytes same = ap (λ s. record { include_stack = s; slots = slots; line_bytes = line_bytes }) same
+
 -- the innermost slot
 pub slot-inner : {R : Type 0} (size first : ℕ) (slots : List (File R)) (f : File R) → AreSlots size first slots → 0 < length (drop first slots) → f ≡ get_or slots first f → IsSlot size f
 slot-inner size first slots f s some is = subst (IsSlot size) (sym is) (All-get_or (IsSlot size) slots first f (some-open first slots some) s.each)
@@ -342,6 +367,12 @@ slot-inner size first slots f s some is = subst (IsSlot size) (sym is) (All-get_
 -- the open slots with one more
 pub entered-include_stack : {R : Type 0} (first : ℕ) (slots : List (File R)) (f : File R) → 0 < first → first ≤ length slots → drop (first - 1) (set slots (first - 1) f) ≡ f ∷ drop first slots
 entered-include_stack first slots f some inside = grind (arith, drop-set)
+
+-- a source whose buffer was opened
+pub entered-file : {R : Type 0} (found : Found R) (source_bytes size line_bytes conditions_below include_line : ℕ) (buffer : BufferView R) → buffer ≡ opened_buffer found.reader source_bytes size → size ≡ line_bytes →
+    record (entered_file found source_bytes line_bytes conditions_below include_line) { buffer = buffer } ≡ entered_file found source_bytes line_bytes conditions_below include_line
+entered-file {R} found source_bytes size line_bytes conditions_below include_line buffer opened same =
+    ap (λ (b : BufferView R). record (entered_file found source_bytes line_bytes conditions_below include_line) { buffer = b }) (opened ∙ ap (opened_buffer found.reader source_bytes) same)
 
 -- the last byte says whether bytes end in LF
 pub ends_mid_line-last : (ends_mid_line : Bool) (bytes : List ℕ) (last : ℕ) → 0 < length bytes → last ≡ get_or bytes (length bytes - 1) 0 → ends_mid_line_after ends_mid_line bytes ≡ not (is_line_end last)
@@ -394,6 +425,11 @@ held-bound files open_ = grind (arith, held-within files.line_bytes files.includ
 -- a part of what is held
 pub held-part : {R : Type 0} (files : FilesView R) (items : List (File R)) (i : ℕ) (f : File R) → items ≡ files.include_stack → AreOpen files → i < length items → f ≡ get_or items i f → held_bytes (take i items) + length f.buffer.window ≤ files.slots * files.line_bytes
 held-part {R} files items i f same open_ more is = grind (arith, sum_by_more_le, held-bound)
+
+-- what is held of one source more
+pub held-more : {R : Type 0} (items : List (File R)) (i : ℕ) (f : File R) → i < length items → f ≡ get_or items i f → held_bytes (take (i + 1) items) ≡ held_bytes (take i items) + length f.buffer.window
+held-more {R} items i f more is =
+    sum_by_more (λ (g : File R). length g.buffer.window) items i f more ∙ ap (λ (g : File R). held_bytes (take i items) + length g.buffer.window) (sym is)
 
 -- what an open source may still give, and one more, is a digit
 digits-below : {R : Type 0} (size : ℕ) (include_stack : List (File R)) → All (IsSlot size) include_stack → All (λ (d : ℕ). d < 2 ^ 31) (source_digits include_stack)

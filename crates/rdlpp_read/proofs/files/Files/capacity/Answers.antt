@@ -1,6 +1,7 @@
 use Rattle.std.proofs.Common.{length, ap, arith}
 use Rattle.std.proofs.lemmas.List.Elements.{All-same}
 use Rattle.rdlpp_read.specs.Files.{IsSlot}
+use Rattle.rdlpp_read.proofs.BufferTokens.{slot-at}
 use Rattle.rdlpp_read.proofs.files.Files.capacity.Goals as goal
 
 pub loop-file-init : goal.loop-file-init
@@ -14,3 +15,9 @@ loop-file-init g c =
 
 pub returns : goal.returns
 returns g c = grind arith
+
+pub loop-file-preserved : goal.loop-file-preserved
+loop-file-preserved g c =
+    let v = c.loop-file.invariant in
+    let slot = slot-at c.args.self.now.line_bytes c.loop-file.file-index c.deref-file-items.result.now c.file-item.result v.each c.loop-file-test.true c.file-item.is in
+    record { each = v.each; count = v.count; sum = omega (arith, v.sum, slot.size, c.capacity-bytes.ensures) }

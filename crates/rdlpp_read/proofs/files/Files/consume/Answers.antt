@@ -1,6 +1,6 @@
 use Rattle.std.proofs.Common.{ap, ◌∙◌}
-use Rattle.rdlpp_read.specs.Files.{IsSlot}
-use Rattle.rdlpp_read.proofs.BufferTokens.{slot-inner, slots-kept}
+use Rattle.rdlpp_read.specs.Files.{IsSlot, consumed_file}
+use Rattle.rdlpp_read.proofs.BufferTokens.{inner-changed, inner-slot, same-files, slot-inner, slots-kept}
 use Rattle.rdlpp_read.proofs.files.Files.consume.Goals as goal
 
 pub invariant_of-self : goal.invariant_of-self
@@ -9,3 +9,11 @@ invariant_of-self g c =
     slot-inner c.self.inside.line_bytes c.self.inside.first c.self.inside.slots.items c.index_mut-file.result.now c.self.invariant (rw (← c.self.view_is) at c.requires.some) c.index_mut-file.ensures.value in
     slots-kept c.self.inside.line_bytes c.self.inside.first c.self.inside.slots.items _ c.self.invariant
     (record { buffer = c.facts.ensures; size = ap (λ f. f.buffer.line_bytes) c.consume-start.ensures.used ∙ slot.size; ends = c.consume-start.ensures.ends slot.ends; number = rw c.consume-start.ensures.used slot.number })
+
+pub returns-clause-start : goal.returns-clause-start
+returns-clause-start g c =
+    rw (← c.self.view_is, inner-slot c.self.inside.first c.self.inside.slots.items c.index_mut-file.result.now (rw (← c.self.view_is) at c.requires.some) c.index_mut-file.ensures.value) c.consume-start.ensures.start
+
+pub returns-clause-used : goal.returns-clause-used
+returns-clause-used g c =
+    rw (← c.self.view_is) (same-files _ _ _ _ (inner-changed c.self.inside.first c.self.inside.slots.items (consumed_file c.args.len c.args.lines) c.index_mut-file.result.now _ (rw (← c.self.view_is) at c.requires.some) c.index_mut-file.ensures.value c.consume-start.ensures.used))

@@ -1,7 +1,7 @@
 use Rattle.std.proofs.Common.{◌≡◌, ◌<◌, ◌∙◌, [], ap, length, sym, arith}
 use Rattle.rdlpp_read.specs.Buffer.{held_of}
 use Rattle.rdlpp_read.specs.Files.{IsSlot}
-use Rattle.rdlpp_read.proofs.BufferTokens.{grows-fills, held-fills, inner-set, inner-slot, none-held, slot-inner, slots-kept}
+use Rattle.rdlpp_read.proofs.BufferTokens.{grows-fills, held-fills, inner-buffered, inner-set, inner-slot, none-held, same-files, slot-inner, slots-kept}
 use Rattle.rdlpp_read.proofs.files.Files.fill.Goals as goal
 
 pub returns-then-not-is_empty-clause-fills : goal.returns-then-not-is_empty-clause-fills
@@ -31,3 +31,10 @@ returns-clause-fills g c =
     let same : c.file.result.now.buffer ≡ old.buffer = buffer ∙ inner in
     let none : held_of old.buffer ≡ [] = ap held_of (sym same) ∙ (sym c.held.ensures.value ∙ none-held _ (sym c.is_empty.ensures ∙ c.if-not-is_empty.false)) in
     rw (← c.self.view_is, inner, inner-set first slots _ some) (grows-fills _ _ c.take_lines-fill.result old.buffer c.take_lines-fill.new.buffer none c.take_lines-fill.ensures.grows)
+
+pub returns-clause-only : goal.returns-clause-only
+returns-clause-only g c =
+    let first = c.self.inside.first in
+    let slots = c.self.inside.slots.items in
+    let some = rw (← c.self.view_is) at c.requires in
+    rw (← c.self.view_is) (same-files _ _ _ _ (inner-buffered first slots c.index_mut.result.now c.take_lines-fill.new.buffer _ some c.index_mut.ensures.value (sym (inner-set first slots _ some))))

@@ -1,6 +1,6 @@
 use Rattle.std.proofs.Common.{arith}
 use Rattle.rdlpp_read.specs.Files.{AreOpen}
-use Rattle.rdlpp_read.proofs.BufferTokens.{held-part, slots-open}
+use Rattle.rdlpp_read.proofs.BufferTokens.{held-more, held-part, slots-open}
 use Rattle.rdlpp_read.proofs.files.Files.held_len.Goals as goal
 
 pub overflow_add-len : goal.overflow_add-len
@@ -11,3 +11,8 @@ overflow_add-len g c =
     let within = held-part c.args.self.now _ c.loop-file.file-index c.file-item.result v.items open_ c.loop-file-test.true c.file-item.is in
     let room = c.requires in
     omega (arith, v.sum, c.len-len.ensures)
+
+pub loop-file-preserved : goal.loop-file-preserved
+loop-file-preserved g c =
+    let v = c.loop-file.invariant in
+    record { items = v.items; sum = omega (arith, v.sum, c.len-len.ensures, held-more _ c.loop-file.file-index c.file-item.result c.loop-file-test.true c.file-item.is) }

@@ -1,6 +1,6 @@
-use Rattle.std.proofs.Common.{◌∙◌}
+use Rattle.std.proofs.Common.{◌∙◌, sym}
 use Rattle.rdlpp_read.specs.Files.{IsSlot}
-use Rattle.rdlpp_read.proofs.BufferTokens.{slot-inner, slots-kept}
+use Rattle.rdlpp_read.proofs.BufferTokens.{inner-buffered, inner-set, inner-slot, same-files, slot-inner, slots-kept}
 use Rattle.rdlpp_read.proofs.files.Files.hold_line.Goals as goal
 
 pub hold_logical_line-line-requires : goal.hold_logical_line-line-requires
@@ -13,3 +13,17 @@ invariant_of-self g c =
     slot-inner c.self.inside.line_bytes c.self.inside.first c.self.inside.slots.items c.index_mut.result.now c.self.invariant (rw (← c.self.view_is) at c.requires) c.index_mut.ensures.value in
     slots-kept c.self.inside.line_bytes c.self.inside.first c.self.inside.slots.items _ c.self.invariant
     (record { buffer = c.facts.ensures; size = c.hold_logical_line-line.ensures.holds.extends.line_bytes ∙ slot.size; ends = c.hold_logical_line-line.ensures.ends; number = slot.number })
+
+pub returns-clause-only : goal.returns-clause-only
+returns-clause-only g c =
+    let first = c.self.inside.first in
+    let slots = c.self.inside.slots.items in
+    let some = rw (← c.self.view_is) at c.requires in
+    rw (← c.self.view_is) (same-files _ _ _ _ (inner-buffered first slots c.index_mut.result.now c.hold_logical_line-line.new.buffer _ some c.index_mut.ensures.value (sym (inner-set first slots _ some))))
+
+pub returns-clause-holds : goal.returns-clause-holds
+returns-clause-holds g c =
+    let first = c.self.inside.first in
+    let slots = c.self.inside.slots.items in
+    let some = rw (← c.self.view_is) at c.requires in
+    rw (← c.self.view_is, inner-slot first slots c.index_mut.result.now some c.index_mut.ensures.value, inner-set first slots _ some) c.hold_logical_line-line.ensures.holds

@@ -1,6 +1,6 @@
 use Rattle.std.proofs.Common.{ap, ◌∙◌}
 use Rattle.rdlpp_read.specs.Files.{IsSlot}
-use Rattle.rdlpp_read.proofs.BufferTokens.{slot-inner, slots-left, some-open}
+use Rattle.rdlpp_read.proofs.BufferTokens.{inner-left, same-files, slot-inner, slots-left, some-open}
 use Rattle.rdlpp_read.proofs.files.Files.leave.Goals as goal
 
 pub invariant_of-self : goal.invariant_of-self
@@ -11,3 +11,6 @@ invariant_of-self g c =
     slots-left c.self.inside.line_bytes c.self.inside.first c.self.inside.slots.items _ (some-open c.self.inside.first c.self.inside.slots.items some) c.self.invariant
     (record { buffer = c.facts.ensures; size = ap (λ f. f.line_bytes) c.close.ensures.closed ∙ slot.size; ends = c.close.ensures.ends; number = slot.number })
     (ap (λ f. f.reader) c.close.ensures.closed)
+
+pub returns : goal.returns
+returns g c = rw (← c.self.view_is) (same-files _ _ _ _ (inner-left c.self.inside.first c.self.inside.slots.items _))

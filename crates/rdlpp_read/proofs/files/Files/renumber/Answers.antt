@@ -1,5 +1,6 @@
+use Rattle.std.proofs.Common.{refl}
 use Rattle.rdlpp_read.specs.Files.{IsSlot}
-use Rattle.rdlpp_read.proofs.BufferTokens.{slot-inner, slots-kept}
+use Rattle.rdlpp_read.proofs.BufferTokens.{inner-changed, same-files, slot-inner, slots-kept}
 use Rattle.rdlpp_read.proofs.files.Files.renumber.Goals as goal
 
 pub invariant_of-self : goal.invariant_of-self
@@ -8,3 +9,7 @@ invariant_of-self g c =
     slot-inner c.self.inside.line_bytes c.self.inside.first c.self.inside.slots.items c.index_mut-file.result.now c.self.invariant (rw (← c.self.view_is) at c.requires.some) c.index_mut-file.ensures.value in
     slots-kept c.self.inside.line_bytes c.self.inside.first c.self.inside.slots.items _ c.self.invariant
     (record { buffer = slot.buffer; size = slot.size; ends = slot.ends; number = c.requires.number })
+
+pub returns : goal.returns
+returns g c =
+    rw (← c.self.view_is) (same-files _ _ _ _ (inner-changed c.self.inside.first c.self.inside.slots.items _ c.index_mut-file.result.now _ (rw (← c.self.view_is) at c.requires.some) c.index_mut-file.ensures.value refl))
