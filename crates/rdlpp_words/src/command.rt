@@ -37,8 +37,9 @@ Exit status:
 Example:
   rdlpp -I inc -D WIDTH=8 -o chip.out.rdl chip.rdl";
 
-/// The options in the order of the help, each with its help. Those that take a limit come last, in the order of the fields of `Limits`.
-pub(crate) const OPTIONS: [(&str, &str); 17] = [
+/// The source and the options in the order of the help, each with its help. Those that take a limit come last, in the order of the fields of `Limits`.
+pub(crate) const OPTIONS: &[(&str, &str)] = &[
+    (SOURCE, "The source; - is standard input"),
     (
         DEFINE,
         "Define a macro, with an empty body where there is no =TEXT; may repeat",
@@ -115,9 +116,8 @@ pub(crate) fn rdlpp_command<'a>(alloc: Global) -> Result<Command<'a>, AllocError
         .version("0.1.0")
         .about(ABOUT)
         .after_help(AFTER)
-        .bin_name("rdlpp")?
-        .arg(source(alloc))?;
-    for (name, help) in OPTIONS {
+        .bin_name("rdlpp")?;
+    for &(name, help) in OPTIONS {
         command = command.arg(option_of(alloc, name, help))?;
     }
     Ok(command)
@@ -128,14 +128,10 @@ pub(crate) fn is_limit(name: &str) -> bool {
     name.starts_with("max-")
 }
 
-fn source<'a>(alloc: Global) -> Arg<'a> {
-    let source = Arg::new(alloc, SOURCE).help("The source; - is standard input");
-    text_of(source.required(true).action(ArgAction::Set), "SOURCE")
-}
-
 fn option_of<'a>(alloc: Global, name: &'static str, help: &'static str) -> Arg<'a> {
     let option = Arg::new(alloc, name).help(help);
     match name {
+        SOURCE => text_of(option.required(true).action(ArgAction::Set), "SOURCE"),
         DEFINE => text_of(option.short('D').action(ArgAction::Append), "NAME[=TEXT]"),
         FOLDER => text_of(option.short('I').action(ArgAction::Append), "FOLDER"),
         OUTPUT => text_of(option.short('o').action(ArgAction::Set), "FILE"),

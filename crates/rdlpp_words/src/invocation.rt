@@ -101,7 +101,7 @@ fn read_matches(
 ) -> Result<Invocation, UsageFault>
     ensures { IfOk result (λ invocation. AreInRange invocation.options.limits) }
 {
-    for (name, _) in OPTIONS {
+    for &(name, _) in OPTIONS {
         if is_limit(name) && matches.get_str(name).unwrap_or("").starts_with('+') {
             return Err(refusal(alloc, command, "a limit is a number without a sign"));
         }
