@@ -79,7 +79,7 @@ fn run_noted(
         Err(_) => Err(PrepFault::NoMemory),
     };
     if let Err(fault) = &outcome {
-        match watching.places() {
+        match &watching.places {
             Some(places) => tell_noted(rt, invocation, fault, engine, places, output.failure()),
             None => tell_fault(rt, fault),
         }

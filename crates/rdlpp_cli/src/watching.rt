@@ -8,8 +8,8 @@ use rdlpp_words::Invocation;
 #[derive(Drop)]
 pub struct Watching {
     mapping: Mapping,
-    // where macros were defined, where notes are asked for
-    places: Option<DefinitionPlaces>,
+    /// Where macros were defined, where notes are asked for.
+    pub places: Option<DefinitionPlaces>,
     is_looking: bool,
 }
 
@@ -36,11 +36,6 @@ impl Watching {
     /// As of `Mapping::finish`.
     pub fn finish(&mut self) -> Result<(), WriteFault> {
         self.mapping.finish()
-    }
-
-    /// Where macros were defined, where notes are asked for.
-    pub fn places(&self) -> Option<&DefinitionPlaces> {
-        self.places.as_ref()
     }
 }
 
