@@ -1,4 +1,4 @@
-use Rattle.std.proofs.Common.{length, ap, arith}
+use Rattle.std.proofs.Common.{◌+◌, ◌≤◌, length, ap, arith, mul-le-mul_right}
 use Rattle.std.proofs.lemmas.List.Elements.{All-same}
 use Rattle.rdlpp_read.specs.Files.{IsSlot}
 use Rattle.rdlpp_read.proofs.BufferTokens.{slot-at}
@@ -21,3 +21,12 @@ loop-file-preserved g c =
     let v = c.loop-file.invariant in
     let slot = slot-at c.args.self.now.line_bytes c.loop-file.file-index c.deref-file-items.result.now c.file-item.result v.each c.loop-file-test.true c.file-item.is in
     record { each = v.each; count = v.count; sum = omega (arith, v.sum, slot.size, c.capacity-bytes.ensures) }
+
+pub overflow_add-bytes : goal.overflow_add-bytes
+overflow_add-bytes g c =
+    let v = c.loop-file.invariant in
+    let size = c.args.self.now.line_bytes in
+    let slot = slot-at size c.loop-file.file-index c.deref-file-items.result.now c.file-item.result v.each c.loop-file-test.true c.file-item.is in
+    let below : c.loop-file.file-index + 1 ≤ c.args.self.now.slots = omega (arith, v.count, c.loop-file-test.true) in
+    let room = c.requires in
+    omega (arith, v.sum, slot.size, c.capacity-bytes.ensures, mul-le-mul_right size below)

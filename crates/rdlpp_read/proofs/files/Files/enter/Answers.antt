@@ -26,3 +26,13 @@ returns g c =
     slot-at c.self.inside.line_bytes (first - 1) slots c.index_mut-file.result.now c.self.invariant.each (omega arith) c.index_mut-file.ensures.value in
     let same = entered-file c.args.found c.args.source_bytes _ _ c.args.conditions_below c.args.include_line c.open.new.self c.open.ensures.opened slot.size in
     rw (← c.self.view_is) (same-files _ _ _ _ (entered-include_stack first slots _ some inside ∙ ap (λ f. f ∷ drop first slots) same))
+
+pub overflow_sub-at : goal.overflow_sub-at
+overflow_sub-at g c =
+    let room = rw (← c.self.view_is) at c.requires.room in omega (arith, length-drop c.self.inside.first c.self.inside.slots.items)
+
+pub index_mut-file-requires : goal.index_mut-file-requires
+index_mut-file-requires g c =
+    let room = rw (← c.self.view_is) at c.requires.room in
+    let inside = c.self.invariant.inside in
+    omega (arith, length-drop c.self.inside.first c.self.inside.slots.items, c.self.inside.slots.ok.0)

@@ -1,6 +1,6 @@
-use Rattle.std.proofs.Common.{ap, sym, ◌∙◌}
+use Rattle.std.proofs.Common.{arith, ap, sym, ◌∙◌}
 use Rattle.rdlpp_read.specs.Files.{IsSlot}
-use Rattle.rdlpp_read.proofs.BufferTokens.{inner-buffered, inner-slot, moded-ends, same-files, slot-inner, slots-kept}
+use Rattle.rdlpp_read.proofs.BufferTokens.{inner-buffered, inner-slot, moded-ends, same-files, slot-inner, slots-kept, some-open}
 use Rattle.rdlpp_read.specs.Buffer.{entered_mode}
 use Rattle.rdlpp_read.proofs.files.Files.enter_mode.Goals as goal
 
@@ -20,3 +20,7 @@ returns g c =
     let some = rw (← c.self.view_is) at c.requires in
     let inner = inner-slot first slots old some c.index_mut.ensures.value in
     rw (← c.self.view_is) (same-files _ _ _ _ (inner-buffered first slots old c.enter_mode.new.self _ some c.index_mut.ensures.value (c.enter_mode.ensures ∙ ap (λ b. entered_mode b c.args.next) (sym inner))))
+
+pub index_mut-requires : goal.index_mut-requires
+index_mut-requires g c =
+    omega (arith, some-open c.self.inside.first c.self.inside.slots.items (rw (← c.self.view_is) at c.requires), c.self.inside.slots.ok.0)

@@ -1,7 +1,7 @@
 use Rattle.std.proofs.Common.{◌≡◌, ◌<◌, ◌∙◌, [], ap, length, sym, arith}
 use Rattle.rdlpp_read.specs.Buffer.{held_of}
 use Rattle.rdlpp_read.specs.Files.{IsSlot}
-use Rattle.rdlpp_read.proofs.BufferTokens.{grows-fills, held-fills, inner-buffered, inner-set, inner-slot, none-held, same-files, slot-inner, slots-kept}
+use Rattle.rdlpp_read.proofs.BufferTokens.{grows-fills, held-fills, inner-buffered, inner-set, inner-slot, none-held, same-files, slot-inner, slots-kept, some-open}
 use Rattle.rdlpp_read.proofs.files.Files.fill.Goals as goal
 
 pub returns-then-not-is_empty-clause-fills : goal.returns-then-not-is_empty-clause-fills
@@ -38,3 +38,7 @@ returns-clause-only g c =
     let slots = c.self.inside.slots.items in
     let some = rw (← c.self.view_is) at c.requires in
     rw (← c.self.view_is) (same-files _ _ _ _ (inner-buffered first slots c.index_mut.result.now c.take_lines-fill.new.buffer _ some c.index_mut.ensures.value (sym (inner-set first slots _ some))))
+
+pub index_mut-requires : goal.index_mut-requires
+index_mut-requires g c =
+    omega (arith, some-open c.self.inside.first c.self.inside.slots.items (rw (← c.self.view_is) at c.requires), c.self.inside.slots.ok.0)

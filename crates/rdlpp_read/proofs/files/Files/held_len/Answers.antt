@@ -1,5 +1,6 @@
-use Rattle.std.proofs.Common.{arith}
-use Rattle.rdlpp_read.specs.Files.{AreOpen}
+use Rattle.std.proofs.Common.{◌∙◌, ap, arith, drop, length-drop, refl}
+use Rattle.std.proofs.lemmas.List.{take_all}
+use Rattle.rdlpp_read.specs.Files.{AreOpen, FilesView, held_bytes}
 use Rattle.rdlpp_read.proofs.BufferTokens.{held-more, held-part, slots-open}
 use Rattle.rdlpp_read.proofs.files.Files.held_len.Goals as goal
 
@@ -16,3 +17,13 @@ pub loop-file-preserved : goal.loop-file-preserved
 loop-file-preserved g c =
     let v = c.loop-file.invariant in
     record { items = v.items; sum = omega (arith, v.sum, c.len-len.ensures, held-more _ c.loop-file.file-index c.file-item.result c.loop-file-test.true c.file-item.is) }
+
+pub loop-file-init : goal.loop-file-init
+loop-file-init g c =
+    let first = c.self.inside.first in
+    let whole = take_all _ (drop first c.deref.result.now) (omega (arith, length-drop first c.deref.result.now)) in
+    record { items = whole ∙ ap (drop first) c.deref.ensures.value ∙ ap (λ (f : FilesView _). f.include_stack) c.self.view_is; sum = refl }
+
+pub returns : goal.returns
+returns g c =
+    let v = c.loop-file.invariant in v.sum ∙ ap held_bytes (take_all c.loop-file.file-index _ c.loop-file-test.false ∙ v.items)

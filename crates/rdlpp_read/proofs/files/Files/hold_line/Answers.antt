@@ -1,6 +1,6 @@
-use Rattle.std.proofs.Common.{◌∙◌, sym}
+use Rattle.std.proofs.Common.{arith, ◌∙◌, sym}
 use Rattle.rdlpp_read.specs.Files.{IsSlot}
-use Rattle.rdlpp_read.proofs.BufferTokens.{inner-buffered, inner-set, inner-slot, same-files, slot-inner, slots-kept}
+use Rattle.rdlpp_read.proofs.BufferTokens.{inner-buffered, inner-set, inner-slot, same-files, slot-inner, slots-kept, some-open}
 use Rattle.rdlpp_read.proofs.files.Files.hold_line.Goals as goal
 
 pub hold_logical_line-line-requires : goal.hold_logical_line-line-requires
@@ -27,3 +27,7 @@ returns-clause-holds g c =
     let slots = c.self.inside.slots.items in
     let some = rw (← c.self.view_is) at c.requires in
     rw (← c.self.view_is, inner-slot first slots c.index_mut.result.now some c.index_mut.ensures.value, inner-set first slots _ some) c.hold_logical_line-line.ensures.holds
+
+pub index_mut-requires : goal.index_mut-requires
+index_mut-requires g c =
+    omega (arith, some-open c.self.inside.first c.self.inside.slots.items (rw (← c.self.view_is) at c.requires), c.self.inside.slots.ok.0)

@@ -1,4 +1,4 @@
-use Rattle.std.proofs.Common.{ap, ◌∙◌}
+use Rattle.std.proofs.Common.{arith, ap, ◌∙◌}
 use Rattle.rdlpp_read.specs.Files.{IsSlot}
 use Rattle.rdlpp_read.proofs.BufferTokens.{inner-left, same-files, slot-inner, slots-left, some-open}
 use Rattle.rdlpp_read.proofs.files.Files.leave.Goals as goal
@@ -14,3 +14,7 @@ invariant_of-self g c =
 
 pub returns : goal.returns
 returns g c = rw (← c.self.view_is) (same-files _ _ _ _ (inner-left c.self.inside.first c.self.inside.slots.items _))
+
+pub index_mut-requires : goal.index_mut-requires
+index_mut-requires g c =
+    omega (arith, some-open c.self.inside.first c.self.inside.slots.items (rw (← c.self.view_is) at c.requires), c.self.inside.slots.ok.0)
