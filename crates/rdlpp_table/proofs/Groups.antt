@@ -1,11 +1,11 @@
 -- Where the buckets of an index begin, in groups: as one list, and once a group's own starts and those of the groups after it moved.
-use Rattle.std.proofs.Common.{◌≡◌, ℕ, ◌+◌, ◌-◌, ◌*◌, ◌/◌, ◌^◌, ◌<◌, ◌≤◌, List, ◌++◌, All, length, map, take, drop, get_or, replicate, ap, sym, ◌∙◌, arith, inl, inr, subst, length-append, length-drop, length-take-le, get_or-drop, get_or-take}
+use Rattle.std.proofs.Common.{◌≡◌, ℕ, ◌+◌, ◌-◌, ◌*◌, ◌/◌, ◌^◌, ◌<◌, ◌≤◌, List, [], ◌∷◌, ◌++◌, All, refl, length, map, take, drop, get_or, replicate, ap, sym, ◌∙◌, arith, inl, inr, subst, length-append, length-drop, length-take-le, get_or-drop, get_or-take}
 use Rattle.std.specs.List.{slice_range}
 use Rattle.std.proofs.lemmas.Bool.{cases_lt}
 use Rattle.std.proofs.lemmas.List.{ext_get_or, get_or-append_right, get_or-map, get_or-replicate, get_or_append_left, get_or_default, get_or_past, length-map, length-replicate}
 use Rattle.std.proofs.lemmas.List.Edits.{get_or-between, length-between}
 use Rattle.std.proofs.lemmas.List.FromFn.{get_or-map-range_with_len, length-map-range_with_len}
-use Rattle.rdlpp_table.specs.Buckets.{IsGrouped, starts_in}
+use Rattle.rdlpp_table.specs.Buckets.{AreSorted, IsGrouped, starts_in}
 use Rattle.rdlpp_table.specs.Index.{IsLater, IsSooner}
 use borrow.Rule.Slice.PartMut.{put_mid}
 
@@ -28,6 +28,10 @@ zero_at n i =
       | inr h ↦ get_or_past (zeros n) i 0 (omega (arith, length-replicate {A = ℕ} n 0))
     ]
 
+map_zero : (xs : List ℕ) → map (λ x. 0) xs ≡ zeros (length xs)
+map_zero [] = refl
+map_zero (x ∷ xs) = ap (λ (zs : List ℕ). 0 ∷ zs) (map_zero xs)
+
 -- where no group has a place, no bucket has one
 pub starts_of_nothing : (m n : ℕ) → starts_in (zeros m) (zeros n) ≡ zeros n
 starts_of_nothing m n =
@@ -35,8 +39,16 @@ starts_of_nothing m n =
     let l : k < length (zeros n) = omega (arith, starts_long (zeros m) (zeros n)) in
     omega (arith, start_is (zeros m) (zeros n) k l, zero_at m (k / 32), zero_at n k))
 
+nothing_at : (p : ℕ) → get_or (starts_in (zeros 33) (zeros 1025)) p 0 ≡ 0
+nothing_at p = ap (λ (starts : List ℕ). get_or starts p 0) (starts_of_nothing 33 1025) ∙ zero_at 1025 p
+
 pub grouped_nothing : IsGrouped (zeros 33) (zeros 1025)
-grouped_nothing = record { groups = length-replicate {A = ℕ} 33 0; buckets = length-replicate {A = ℕ} 1025 0; first = λ g h. zero_at 1025 (32 * g) }
+grouped_nothing = record {
+  groups = length-replicate {A = ℕ} 33 0;
+  buckets = length-replicate {A = ℕ} 1025 0;
+  first = λ g h. zero_at 1025 (32 * g);
+  sorted = λ a b h l. omega (arith, nothing_at a, nothing_at b);
+}
 
 -- a list of which a function changed each number between two places
 pub record IsMapped (f : ℕ → ℕ) (from to : ℕ) (old new : List ℕ) : Type 0 where
@@ -80,8 +92,8 @@ module _ (f : ℕ → ℕ) (from to : ℕ) (old changed : List ℕ) (o : from �
 -- The starts after a bucket, once those of its own group and of the groups after it moved.
 module _ (f : ℕ → ℕ) (bucket : ℕ) (groups within new_groups new_within : List ℕ) (h : bucket < 1024) (g : IsGrouped groups within)
     (w : IsMapped f (bucket + 1) (32 * (bucket / 32 + 1)) within new_within) (s : IsMapped f (bucket / 32 + 1) 33 groups new_groups) where
-  regrouped : IsGrouped new_groups new_within
-  regrouped = record {
+  regrouped : AreSorted (starts_in new_groups new_within) → IsGrouped new_groups new_within
+  regrouped sorted = record {
     groups = s.long ∙ g.groups;
     buckets = w.long ∙ g.buckets;
     first = λ group l.
@@ -89,6 +101,7 @@ module _ (f : ℕ → ℕ) (bucket : ℕ) (groups within new_groups new_within :
           | inl a ↦ w.following (32 * group) (omega arith) ∙ g.first group l
           | inr a ↦ w.before (32 * group) (omega arith) ∙ g.first group l
         ];
+    sorted = sorted;
   }
 
   start_before : (p : ℕ) → p ≤ bucket → get_or (starts_in new_groups new_within) p 0 ≡ get_or (starts_in groups within) p 0
@@ -157,8 +170,8 @@ module _ (bucket : ℕ) (groups within : List ℕ) (h : bucket < 1024) (g : IsGr
     groups_mapped : (k : ℕ → ℕ) → moved_groups ≡ map k (slice_range groups (group + 1) 33) → IsMapped k (group + 1) 33 groups new_groups
     groups_mapped k n = mapped k (group + 1) 33 groups moved_groups (omega arith) (omega (arith, g.groups)) n
 
-    pub grouped_again : (k : ℕ → ℕ) → moved ≡ map k (slice_range within (bucket + 1) (32 * (group + 1))) → moved_groups ≡ map k (slice_range groups (group + 1) 33) → IsGrouped new_groups new_within
-    grouped_again k m n = regrouped k bucket groups within new_groups new_within h g (within_mapped k m) (groups_mapped k n)
+    pub grouped_again : (k : ℕ → ℕ) → AreSorted (starts_in new_groups new_within) → moved ≡ map k (slice_range within (bucket + 1) (32 * (group + 1))) → moved_groups ≡ map k (slice_range groups (group + 1) 33) → IsGrouped new_groups new_within
+    grouped_again k s m n = regrouped k bucket groups within new_groups new_within h g (within_mapped k m) (groups_mapped k n) s
 
     same_long : (k : ℕ → ℕ) → moved ≡ map k (slice_range within (bucket + 1) (32 * (group + 1))) → length (starts_in new_groups new_within) ≡ length (starts_in groups within)
     same_long k m = starts_long new_groups new_within ∙ ((within_mapped k m).long ∙ sym (starts_long groups within))
@@ -192,3 +205,78 @@ module _ (bucket : ℕ) (groups within : List ℕ) (h : bucket < 1024) (g : IsGr
                 | inr c ↦ omega (arith, start_is groups within p l, start_following (λ s. s - 1) bucket groups within new_groups new_within h g w s p c (omega (arith, g.buckets)), some_group some (p / 32) (omega arith) (omega (arith, g.buckets)))
               ];
         }
+
+-- Starts that are in order stay so where those after a bucket move by one.
+module _ (bucket : ℕ) (starts new : List ℕ) (n : length starts ≡ 1025) (o : AreSorted starts) where
+  pub sorted_later : IsLater bucket starts new → AreSorted new
+  sorted_later s a b h l =
+      elim (cases_lt bucket a) [
+        | inl x ↦ omega (arith, o a b h l, s.following a x (omega (arith, n)), s.following b (omega arith) (omega (arith, n)))
+        | inr x ↦
+            elim (cases_lt bucket b) [
+              | inl y ↦ omega (arith, o a b h l, s.before a x, s.following b y (omega (arith, n)))
+              | inr y ↦ omega (arith, o a b h l, s.before a x, s.before b y)
+            ]
+      ]
+
+  pub sorted_sooner : BucketsAreAfter bucket starts → IsSooner bucket starts new → AreSorted new
+  sorted_sooner m s a b h l =
+      elim (cases_lt bucket a) [
+        | inl x ↦ omega (arith, o a b h l, s.following a x (omega (arith, n)), s.following b (omega arith) (omega (arith, n)))
+        | inr x ↦
+            elim (cases_lt bucket b) [
+              | inl y ↦ omega (arith, o a bucket x (omega arith), m b y l, s.before a x, s.following b y (omega (arith, n)))
+              | inr y ↦ omega (arith, o a b h l, s.before a x, s.before b y)
+            ]
+      ]
+
+-- where a group begins where the next one does, each of its buckets begins there
+none_within : (groups within : List ℕ) → IsGrouped groups within → (group : ℕ) → group < 32 → get_or groups (group + 1) 0 ≤ get_or groups group 0 → (b : ℕ) → 32 * group ≤ b → b < 32 * (group + 1) → get_or within b 0 ≡ 0
+none_within groups within g group h e b a l =
+    let same : b / 32 ≡ group = omega arith in
+    let next : 32 * (group + 1) / 32 ≡ group + 1 = omega arith in
+    omega (arith, start_is groups within b (omega (arith, g.buckets)), ap (λ (q : ℕ). get_or groups q 0) same, start_is groups within (32 * (group + 1)) (omega (arith, g.buckets)), ap (λ (q : ℕ). get_or groups q 0) next, g.first (group + 1) (omega arith), g.sorted b (32 * (group + 1)) (omega arith) (omega arith))
+
+-- the buckets of so many groups begin where their group does, and the others where they did
+pub record AreCleared (group : ℕ) (old new : List ℕ) : Type 0 where
+  pub long : length new ≡ length old
+  pub cleared : (b : ℕ) → b < 32 * group → get_or new b 0 ≡ 0
+  pub others : (b : ℕ) → 32 * group ≤ b → get_or new b 0 ≡ get_or old b 0
+
+module _ (groups old new : List ℕ) (group : ℕ) (g : IsGrouped groups old) (h : group < 32) (i : AreCleared group old new) where
+  pub group_stays : get_or groups (group + 1) 0 ≤ get_or groups group 0 → AreCleared (group + 1) old new
+  group_stays e = record {
+    long = i.long;
+    cleared = λ b l.
+        elim (cases_lt b (32 * group)) [
+          | inl c ↦ i.cleared b c
+          | inr c ↦ i.others b c ∙ none_within groups old g group h e b c l
+        ];
+    others = λ b l. i.others b (omega arith);
+  }
+
+  abbrev part : List ℕ
+  part = slice_range new (32 * group) (32 * (group + 1))
+
+  pub group_cleared : (zeroed : List ℕ) → zeroed ≡ zeros (length part) → AreCleared (group + 1) old (put_mid (32 * group) (32 * (group + 1) - 32 * group) new zeroed)
+  group_cleared zeroed z =
+      let m = mapped (λ s. 0) (32 * group) (32 * (group + 1)) new zeroed (omega arith) (omega (arith, i.long, g.buckets)) (z ∙ sym (map_zero part)) in
+      record {
+        long = m.long ∙ i.long;
+        cleared = λ b l.
+            elim (cases_lt b (32 * group)) [
+              | inl c ↦ m.before b c ∙ i.cleared b c
+              | inr c ↦ m.inside b c l
+            ];
+        others = λ b l. m.following b l ∙ i.others b (omega arith);
+      }
+
+pub all_cleared : (groups old new : List ℕ) → IsGrouped groups old → AreCleared 32 old new → new ≡ zeros 1025
+all_cleared groups old new g i =
+    ext_get_or 0 new (zeros 1025) (i.long ∙ (g.buckets ∙ sym (length-replicate {A = ℕ} 1025 0))) (λ k h.
+    elim (cases_lt k 1024) [
+      | inl c ↦ i.cleared k (omega arith) ∙ sym (zero_at 1025 k)
+      | inr c ↦
+          let last : k ≡ 32 * 32 = omega (arith, i.long, g.buckets) in
+          i.others k (omega arith) ∙ (ap (λ (p : ℕ). get_or old p 0) last ∙ (g.first 32 (omega arith) ∙ sym (zero_at 1025 k)))
+    ])

@@ -7,8 +7,13 @@ use Rattle.std.specs.List.{range_with_len}
 unfoldable pub starts_in : List ℕ → List ℕ → List ℕ
 starts_in group_starts within = map (λ b. slice_index group_starts (b / 32) + slice_index within b) (range_with_len 0 (length within))
 
--- what holds of them: each group begins where its first bucket does
+-- no bucket begins before one that stands before it
+abbrev pub AreSorted : List ℕ → Type 0
+AreSorted starts = (a b : ℕ) → a ≤ b → b ≤ 1024 → slice_index starts a ≤ slice_index starts b
+
+-- what holds of them: each group begins where its first bucket does, and no bucket begins before one that stands before it
 pub record IsGrouped (group_starts within : List ℕ) : Type 0 where
   pub groups : length group_starts ≡ 33
   pub buckets : length within ≡ 1025
   pub first : (group : ℕ) → group ≤ 32 → slice_index within (32 * group) ≡ 0
+  pub sorted : AreSorted (starts_in group_starts within)

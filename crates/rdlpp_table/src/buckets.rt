@@ -1,5 +1,6 @@
 // The buckets of an index: names whose bytes are mixed to numbers that begin alike stand together.
 ghost use Rattle.std.specs.Prelude.{◌≡◌, ℕ, ◌+◌, ◌*◌, ◌-◌, ◌<◌, ◌≤◌, ◌^◌, All, map, replicate, slice_index};
+ghost use Rattle.rdlpp_table.specs.Buckets.{IsGrouped};
 ghost use Rattle.rdlpp_table.specs.Index.{bucket_of, fold_bytes, mix, IsLater, IsSooner};
 
 use crate::lookup::front_number;
@@ -63,6 +64,18 @@ pub(crate) fn move_down(starts: &mut [u32])
 // How many buckets a group has.
 pub(crate) const GROUP: usize = 32;
 
+// Lets each bucket begin where its group does. Those of a group that has no name do so already.
+fn clear_groups(within: &mut [u32; 1_025], group_starts: &[u32; 33])
+    requires { IsGrouped group_starts.now within.old }
+    ensures { within.new ≡ replicate 1025 0 }
+{
+    for group in 0..32 {
+        if group_starts[group] < group_starts[group + 1] {
+            within[GROUP * group..GROUP * (group + 1)].fill(0);
+        }
+    }
+}
+
 // Where each of the 1,024 buckets of an index begins, and after them where the last one ends. Buckets stand in groups of 32, so
 // that a name that comes or goes moves the starts of 31 buckets and of 32 groups at most.
 #[derive(Drop)]
@@ -100,8 +113,8 @@ impl BucketStarts {
     pub(crate) fn clear(&mut self)
         ensures { self.new ≡ replicate 1025 0 }
     {
+        clear_groups(&mut self.within, &self.group_starts);
         self.group_starts = [0; 33];
-        self.within = [0; 1_025];
     }
 
     // Where a bucket begins, or where the last one ends.

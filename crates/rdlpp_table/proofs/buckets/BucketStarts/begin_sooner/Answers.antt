@@ -1,5 +1,5 @@
-use Rattle.std.proofs.Common.{subst, sym}
-use Rattle.rdlpp_table.proofs.Groups.{grouped_again, some_groups, some_within, sooner, BucketsAreAfter}
+use Rattle.std.proofs.Common.{◌∙◌, subst, sym}
+use Rattle.rdlpp_table.proofs.Groups.{grouped_again, some_groups, some_within, sooner, sorted_sooner, starts_long, BucketsAreAfter}
 use Rattle.rdlpp_table.proofs.buckets.BucketStarts.begin_sooner.Goals as goal
 
 pub move_down-requires : goal.move_down-requires
@@ -11,7 +11,11 @@ move_down-requires-2 c =
     some_groups c.args.bucket _ _ c.requires.bucket c.self.invariant (subst (BucketsAreAfter c.args.bucket) (sym c.self.view_is) c.requires.some)
 
 pub invariant_of-self : goal.invariant_of-self
-invariant_of-self c = grouped_again c.args.bucket _ _ c.requires.bucket c.self.invariant _ _ _ c.move_down.ensures c.move_down-2.ensures
+invariant_of-self c =
+    let g = c.self.invariant in
+    let some = subst (BucketsAreAfter c.args.bucket) (sym c.self.view_is) c.requires.some in
+    let moved = sooner c.args.bucket _ _ c.requires.bucket g _ _ some c.move_down.ensures c.move_down-2.ensures in
+    grouped_again c.args.bucket _ _ c.requires.bucket g _ _ _ (sorted_sooner c.args.bucket _ _ (starts_long _ _ ∙ g.buckets) g.sorted some moved) c.move_down.ensures c.move_down-2.ensures
 
 pub returns : goal.returns
 returns c =
