@@ -20,8 +20,7 @@ use Rattle.rdlpp_state.specs.Opening.{Starts, fresh_engine, is_device_fault, is_
 use Rattle.rdlpp_state.specs.Remaining.{left_of}
 use Rattle.rdlpp_state.specs.Steps.{is_call_failed, is_memory_kind, is_read_failed, is_write_failed}
 use Rattle.rdlpp_expand.specs.Reading.{ReadingView, reading_left}
-use Rattle.rdlpp_expand.specs.Run.{Begins, Runs, count_of, fault_of, is_fresh}
-use Rattle.rdlpp_expand.specs.declared.writing.RunFault.{RunFault}
+use Rattle.rdlpp_expand.specs.Run.{Begins, Runs, is_fresh}
 use Rattle.rdlpp_expand.proofs.RunFacts.{appends_none}
 use Rattle.rdlpp_reports.specs.Writes.{Writes}
 use Rattle.rdlpp.specs.Definitions.{GivenFault, Given, Pair, Taken, given, given_in, refused_definition, with_macros}
@@ -238,15 +237,14 @@ fresh_of {S} {R} options sources engine e =
 
 -- an engine that is fresh was given definitions, started and run
 pub follows_from : {S R W : Type 0} (g : Ghosts S R) (h : SinkGhosts W) (options : Options)
-    (path : List ℕ) (before after : W) (fresh given_to started ended : EngineView S R) (opening : Option Report) (answer : Result ℕ RunFault)
-    (count : ℕ) (fault : Option Report)
+    (path : List ℕ) (before after : W) (fresh given_to started ended : EngineView S R) (opening : Option Report) (count : ℕ) (fault : Option Report)
     → IsFreshOf options fresh
     → given_in fresh options.defines.items ≡ Taken given_to.table.macros → given_to ≡ with_macros fresh given_to.table.macros
     → Starts g given_to started path opening
-    → Runs g h started ended before after (count_of answer) (fault_of answer) → count_of answer ≡ count → fault_of answer ≡ fault
+    → Runs g h started ended before after count ended.kept → ended.kept ≡ fault
     → FollowsFrom g h options (given_by options) fresh ended path before after count fault
 unfolding fresh_engine
-follows_from g h options path before after fresh given_to started ended opening answer count fault e d m s r c f =
+follows_from g h options path before after fresh given_to started ended opening count fault e d m s r f =
     let macros = given_to.table.macros in
     subst (λ w. FollowsFrom g h options w fresh ended path before after count fault) (sym (ap (λ x. given_in x options.defines.items) (sym e) ∙ d)) (
       record {
@@ -254,8 +252,7 @@ follows_from g h options path before after fresh given_to started ended opening 
         ended = ended;
         opening = opening;
         starts = subst (λ x. Starts g x started path opening) (m ∙ ap (λ x. with_macros x macros) e) s;
-        runs = subst (λ n. Runs g h started ended before after n fault) c
-            (subst (λ x. Runs g h started ended before after (count_of answer) x) f r);
+        runs = subst (λ x. Runs g h started ended before after count x) f r;
       },
       refl,
     )

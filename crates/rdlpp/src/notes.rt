@@ -4,13 +4,14 @@ ghost use Rattle.rdlpp_meaning.specs.Opens.{Texts};
 ghost use Rattle.rdlpp_texts.specs.Places.{IsSource};
 
 use crate::left_out::is_left_out;
+use arrayvec::ArrayString;
 use itoa::Buffer;
 use rdlpp_define::Limits;
 use rdlpp_expand::{Engine, Fault, FaultKind};
 use rdlpp_front::{SourceItem, next_item};
 use rdlpp_reports::{NOTE, write_parts, write_whole};
 use rdlpp_scan::Mode;
-use rdlpp_source::{SearchedFolders, Sources, joined_path};
+use rdlpp_source::{SearchedFolders, Sources, join_path};
 use rdlpp_table::MacroId;
 use rdlpp_texts::{PartEnd, TextSource, next_part, text_at};
 use std::io::{self, Write};
@@ -201,9 +202,10 @@ fn write_search<S: Sources, W: Write>(
     let Some(name) = name else {
         return Ok(());
     };
+    let mut path = ArrayString::new();
     for folder in SearchedFolders::of(engine.inner_path(), name, folders) {
-        match joined_path(folder, name) {
-            Some(path) => write_parts(&[NOTE, b"tried '", path.as_bytes(), b"'\n"], writer)?,
+        match join_path(&mut path, folder, name) {
+            Some(()) => write_parts(&[NOTE, b"tried '", path.as_bytes(), b"'\n"], writer)?,
             None => {
                 let folder = folder.as_bytes();
                 write_parts(&[NOTE, b"too long in '", folder, b"'\n"], writer)?;

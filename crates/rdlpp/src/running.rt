@@ -6,7 +6,7 @@ ghost use Rattle.rdlpp.specs.Running.{IsFreshOf, MakesEngine, RunsFrom};
 
 use crate::defining::define_all;
 use crate::{Options, PrepFault};
-use rdlpp_expand::{Engine, NewFault, Watcher, run_watched};
+use rdlpp_expand::{Engine, NewFault, RunFault, Watcher, run_watched};
 use rdlpp_source::{Sink, Sources};
 use std::alloc::Global;
 
@@ -54,10 +54,11 @@ pub fn run_watched_from<S: Sources, W: Sink, V: Watcher>(
     if let Err(fault) = define_all(engine, &options.defines) {
         return Err(PrepFault::Run(fault));
     }
-    // A fault of the opening is kept by the engine, and the run answers it.
-    let _opened = engine.start(path);
-    match run_watched(engine, writer, watcher) {
-        Ok(written) => Ok(written),
-        Err(fault) => Err(PrepFault::Run(fault)),
+    // A fault of the opening is kept by the engine, and ends the run.
+    engine.open(path);
+    let written = run_watched(engine, writer, watcher);
+    if let Some(fault) = engine.kept_fault() {
+        return Err(PrepFault::Run(RunFault { fault, written }));
     }
+    Ok(written)
 }

@@ -689,8 +689,8 @@ impl<S: Sources> Engine<S> {
         }
     }
 
-    // The fault that is kept, once more.
-    pub(crate) fn kept_fault(&self) -> Option<Fault>
+    /// The fault that is kept, once more.
+    pub fn kept_fault(&self) -> Option<Fault>
         ensures { option_map report_of result ≡ self.now.kept }
     {
         match &self.kept {

@@ -36,22 +36,26 @@ pub fn run<S: Sources, W: Sink>(engine: &mut Engine<S>, writer: &mut W) -> Resul
     ensures { Runs S.Sources W.Sink engine.old engine.new writer.old writer.new (count_of result) (fault_of result) }
 {
     let mut nobody = Unwatched {};
-    run_watched(engine, writer, &mut nobody)
+    let written = run_watched(engine, writer, &mut nobody);
+    match engine.kept_fault() {
+        Some(fault) => Err(RunFault { fault, written }),
+        None => Ok(written),
+    }
 }
 
 /// Writes the output of an engine as `run` does, and shows a watcher what the writer took of each piece, before the next step,
 /// with the place of its first byte. A watcher that doesn't look, and a piece of which nothing was taken, aren't shown. It tells a
 /// watcher that looks of each `define` that was read, before the next step too.
 ///
-/// What the watcher is shown is what the writer took, in its order. The answer, the faults and what the engine keeps are those of
-/// `run`.
+/// What the watcher is shown is what the writer took, in its order. The answer is how many bytes the writer took in this call, as of
+/// `run`, and what the engine keeps is that of `run`: the fault, if one ended the output.
 pub fn run_watched<S: Sources, W: Sink, V: Watcher>(
     engine: &mut Engine<S>,
     writer: &mut W,
     watcher: &mut V,
-) -> Result<u64, RunFault>
+) -> u64
     requires { IsStarted engine.old }
-    ensures runs { Runs S.Sources W.Sink engine.old engine.new writer.old writer.new (count_of result) (fault_of result) }
+    ensures runs { Runs S.Sources W.Sink engine.old engine.new writer.old writer.new result engine.new.kept }
     ensures shows { Shows W.Sink V.Watcher writer.old writer.new watcher.old watcher.new }
 {
     // Open texts, which may write millions of short pieces, have a branch of their own: after a piece of one of them it is known
@@ -64,7 +68,7 @@ pub fn run_watched<S: Sources, W: Sink, V: Watcher>(
             written = written.saturating_add(pulled.len as u64);
             if let Some(ending) = pulled.ending {
                 finish(engine, writer, ending);
-                return outcome(engine, written);
+                return written;
             }
             in_texts = pulled.in_texts;
         } else {
@@ -72,7 +76,7 @@ pub fn run_watched<S: Sources, W: Sink, V: Watcher>(
             written = written.saturating_add(pulled.len as u64);
             if let Some(ending) = pulled.ending {
                 finish(engine, writer, ending);
-                return outcome(engine, written);
+                return written;
             }
             in_texts = engine.is_in_texts();
         }
@@ -97,17 +101,6 @@ fn finish<S: Sources, W: Sink>(engine: &mut Engine<S>, writer: &mut W, ending: E
             }
         }
         Ending::Unwritten => engine.record_write_fault(),
-    }
-}
-
-// The answer of a run: the fault that the engine keeps, or how many bytes the writer took.
-fn outcome<S: Sources>(engine: &Engine<S>, written: u64) -> Result<u64, RunFault>
-    ensures count { count_of result ≡ written }
-    ensures fault { fault_of result ≡ engine.now.kept }
-{
-    match engine.kept_fault() {
-        Some(fault) => Err(RunFault { fault, written }),
-        None => Ok(written),
     }
 }
 

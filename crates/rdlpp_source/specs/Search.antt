@@ -35,12 +35,12 @@ abbrev pub folders_left : {F : Type 0} → (F → List ℕ) → SearchedFolders 
 folders_left text s = folders_from s.first (map text s.others.now)
 
 -- a path is given where a source may stand there; more than 1,024 bytes are too long, and nothing stands at a path with an LF byte (source: this project's profile)
-abbrev pub IsCandidate : List ℕ → Result (ArrayString 1024) SourceFault → Type 0
-IsCandidate path (Ok found) = (found.bytes ≡ path) × (length path ≤ 1024) × (list_any (λ b. b == 10) path ≡ false)
-IsCandidate path (Err Absent) = (length path ≤ 1024) × (list_any (λ b. b == 10) path ≡ true)
-IsCandidate path (Err PathTooLong) = 1024 < length path
-IsCandidate path (Err Device) = ⊥
-IsCandidate path (Err NoMemory) = ⊥
+abbrev pub IsCandidate : List ℕ → ArrayString 1024 → Result (Unit {0}) SourceFault → Type 0
+IsCandidate path found (Ok done) = (found.bytes ≡ path) × (length path ≤ 1024) × (list_any (λ b. b == 10) path ≡ false)
+IsCandidate path found (Err Absent) = (length path ≤ 1024) × (list_any (λ b. b == 10) path ≡ true)
+IsCandidate path found (Err PathTooLong) = 1024 < length path
+IsCandidate path found (Err Device) = ⊥
+IsCandidate path found (Err NoMemory) = ⊥
 
 -- what stands at a path: nothing, or a text (source: this project's profile)
 abbrev pub at_path : List ℕ → Option (List ℕ) → Answer

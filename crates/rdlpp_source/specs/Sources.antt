@@ -1,6 +1,7 @@
 -- What a search for a text answers, and what a read gives of it.
 -- A definition that names no source is this project's own.
 use Rattle.std.specs.Prelude.{◌≡◌, ℕ, ◌<◌, Bool, true, false, List, [], ◌++◌, length, take, ⊤, Result, Ok, Err}
+use Rattle.arrayvec.specs.declared.array_string.ArrayString.{ArrayString}
 use Rattle.rdlpp_source.specs.declared.sources.Found.{Found}
 use Rattle.rdlpp_source.specs.declared.sources.SourceFault.{SourceFault}
 use Rattle.rdlpp_source.specs.declared.sources.SourceFault.TheVariants.{Absent, PathTooLong, Device, NoMemory}
@@ -39,6 +40,11 @@ is_no_memory (Err Absent) = false
 is_no_memory (Err PathTooLong) = false
 is_no_memory (Err Device) = false
 is_no_memory (Err NoMemory) = true
+
+-- what a search answers that sets the path of what it opens
+abbrev pub found_at : {R : Type 0} → ArrayString 1024 → Result R SourceFault → Result (Found R) SourceFault
+found_at path (Ok reader) = Ok (record { path = path; reader = reader })
+found_at path (Err fault) = Err fault
 
 -- a search answered so, with the whole text unread (source: this project's profile)
 abbrev pub Gives : {R : Type 0} → (R → List ℕ) → Answer → Result (Found R) SourceFault → Type 0

@@ -8,7 +8,7 @@ ghost use Rattle.rdlpp_source.specs.SharedText.{text_bytes};
 ghost use Rattle.rdlpp_source.specs.Counts.{Counts};
 ghost use Rattle.rdlpp_source.specs.Asked.{Answers, Comes, Adds, Ends, Stays, search_at, search_of, standing_at, wanted_of};
 
-use crate::{Found, SearchedFolders, SharedText, SourceFault, Sources, candidate};
+use crate::{Found, SearchedFolders, SharedText, SourceFault, Sources, set_path};
 use arrayvec::ArrayString;
 use std::alloc::{AllocError, Global};
 use std::collections::BTreeMap;
@@ -173,11 +173,12 @@ impl AskedTexts {
     fn open_in(&self, folder: &str, name: &str) -> Result<Found<AskedReader>, Stop>
         ensures { Comes (search_at self.now (joined_path folder.now name.now)) result }
     {
-        let path = match candidate(folder, name) {
-            Ok(path) => path,
+        let mut path = ArrayString::new();
+        match set_path(&mut path, folder, name) {
+            Ok(()) => {}
             Err(SourceFault::PathTooLong) => return Err(Stop::PathTooLong),
             Err(_) => return Err(Stop::Absent),
-        };
+        }
         match self.known.get(path.as_str()) {
             Some(Standing::Text(text)) => match text.share() {
                 Some(text) => Ok(Found {

@@ -7,7 +7,7 @@ ghost use Rattle.rdlpp_source.specs.Sources.{is_absent, is_device, is_no_memory}
 ghost use Rattle.rdlpp_source.specs.Search.{candidates, joined_path};
 
 use crate::{
-    FileId, FilePair, FileSources, Found, SearchedFolders, SourceFault, Sources, candidate,
+    FileId, FilePair, FileSources, Found, SearchedFolders, SourceFault, Sources, set_path,
 };
 use arrayvec::ArrayString;
 use std::alloc::{AllocError, Global};
@@ -169,7 +169,8 @@ impl<'r, R: Files + Input> Folders<'r, R> {
         ensures path { OpensPath (joined_path folder.now name.now) result }
         ensures file { IfOk result (λ found. IsFile found.reader) }
     {
-        let path = candidate(folder, name)?;
+        let mut path = ArrayString::new();
+        set_path(&mut path, folder, name)?;
         let Ok(text) = String::from_str(self.alloc, path.as_str()) else {
             self.keep_failure(path, io::Error::from(ErrorKind::OutOfMemory));
             return Err(SourceFault::NoMemory);
@@ -204,7 +205,8 @@ impl<'r, R: Files + Input> Folders<'r, R> {
         ensures reader { IfOk result (λ found. IsReaderOf path.now found.reader) }
     {
         if path == STANDARD_INPUT {
-            let path = candidate("", path)?;
+            let mut path = ArrayString::new();
+            set_path(&mut path, "", STANDARD_INPUT)?;
             let Ok(input) = Box::new(self.alloc, self.rt.reader()) else {
                 self.keep_failure(path, io::Error::from(ErrorKind::OutOfMemory));
                 return Err(SourceFault::NoMemory);

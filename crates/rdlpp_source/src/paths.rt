@@ -14,17 +14,16 @@ pub fn folder_of(path: &str) -> &str
     }
 }
 
-/// A name joined to a folder, where that has at most 1,024 bytes: the folder as it is where it is
+/// Sets a path to a name joined to a folder, where that has at most 1,024 bytes: the folder as it is where it is
 /// empty or ends in `/`, and else with one `/`, and then the name (this project's profile).
-pub fn joined_path(folder: &str, name: &str) -> Option<ArrayString<1024>>
+pub fn join_path(path: &mut ArrayString<1024>, folder: &str, name: &str) -> Option<()>
     ensures { MatchOption result (1024 < length (joined_path folder.now name.now))
-        (λ path. path.bytes ≡ joined_path folder.now name.now) }
+        (λ _. path.new.bytes ≡ joined_path folder.now name.now) }
 {
-    let mut path = ArrayString::new();
+    path.clear();
     path.try_push_str(folder).ok()?;
     if !folder.is_empty() && !folder.ends_with('/') {
         path.try_push('/').ok()?;
     }
-    path.try_push_str(name).ok()?;
-    Some(path)
+    path.try_push_str(name).ok()
 }

@@ -3,7 +3,7 @@ ghost use Rattle.std.specs.Prelude.{◌≡◌, map};
 ghost use Rattle.std.specs.Iterator.{YieldsFirstRef, item_count};
 ghost use Rattle.rdlpp_source.specs.Search.{IsCandidate, candidates, folders_left, joined_path};
 
-use crate::{SourceFault, folder_of, joined_path};
+use crate::{SourceFault, folder_of, join_path};
 use arrayvec::ArrayString;
 use std::convert::AsStr;
 
@@ -52,18 +52,18 @@ impl<'a, F: AsStr> Iterator for SearchedFolders<'a, F> {
     }
 }
 
-/// The path at which a name is searched in a folder, where a source may stand there (this project's profile).
+/// Sets a path to the one at which a name is searched in a folder, where a source may stand there (this project's profile).
 ///
 /// # Errors
 /// `PathTooLong` where it has more than 1,024 bytes, which ends a search; `Absent` where it has an LF byte.
-pub fn candidate(folder: &str, name: &str) -> Result<ArrayString<1024>, SourceFault>
-    ensures { IsCandidate (joined_path folder.now name.now) result }
+pub fn set_path(path: &mut ArrayString<1024>, folder: &str, name: &str) -> Result<(), SourceFault>
+    ensures { IsCandidate (joined_path folder.now name.now) path.new result }
 {
-    let Some(path) = joined_path(folder, name) else {
+    if join_path(path, folder, name).is_none() {
         return Err(SourceFault::PathTooLong);
-    };
+    }
     if path.as_bytes().contains(&b'\n') {
         return Err(SourceFault::Absent);
     }
-    Ok(path)
+    Ok(())
 }

@@ -2,10 +2,11 @@
 ghost use Rattle.std.specs.Prelude.{◌≡◌, min, drop, IfOk, length};
 ghost use Rattle.std.specs.Option.{option_copied};
 ghost use Rattle.std.specs.Io.{ReadsAtMost};
-ghost use Rattle.rdlpp_source.specs.Sources.{Gives, Reads};
+ghost use Rattle.rdlpp_source.specs.Sources.{Gives, Reads, found_at};
 ghost use Rattle.rdlpp_source.specs.Search.{joined_path, answer_at};
 
-use crate::{Found, SearchedFolders, SourceFault, Sources, candidate};
+use crate::{Found, SearchedFolders, SourceFault, Sources, set_path};
+use arrayvec::ArrayString;
 
 /// Sources in memory, by this project's search rule.
 ///
@@ -40,16 +41,18 @@ impl<'a> Texts<'a> {
             .map(|entry| entry.1)
     }
 
-    // The source of a name in a folder.
-    fn open_in(&self, folder: &str, name: &str) -> Result<Found<TextReader<'a>>, SourceFault>
-        ensures { Gives left_of (answer_at (text_at self.now) (joined_path folder.now name.now)) result }
+    // What reads the source of a name in a folder, whose path is set.
+    fn open_in(
+        &self,
+        path: &mut ArrayString<1024>,
+        folder: &str,
+        name: &str,
+    ) -> Result<TextReader<'a>, SourceFault>
+        ensures { Gives left_of (answer_at (text_at self.now) (joined_path folder.now name.now)) (found_at path.new result) }
     {
-        let path = candidate(folder, name)?;
+        set_path(path, folder, name)?;
         match self.text_of(path.as_str()) {
-            Some(left) => Ok(Found {
-                path,
-                reader: TextReader { left },
-            }),
+            Some(left) => Ok(TextReader { left }),
             None => Err(SourceFault::Absent),
         }
     }
@@ -75,17 +78,22 @@ impl<'a> Sources for Texts<'a> {
         ensures answer { Gives left_of ((texts_catalog self.old).top path.now) result }
         ensures unchanged { self.new ≡ self.old }
     {
-        self.open_in("", path)
+        let name = path;
+        let mut path = ArrayString::new();
+        let reader = self.open_in(&mut path, "", name)?;
+        Ok(Found { path, reader })
     }
 
     fn find(&mut self, from: &str, name: &str) -> Result<Found<TextReader<'a>>, SourceFault>
         ensures answer { Gives left_of ((texts_catalog self.old).find from.now name.now) result }
         ensures unchanged { self.new ≡ self.old }
     {
+        let mut path = ArrayString::new();
         for folder in SearchedFolders::of(from, name, self.folders) {
-            match self.open_in(folder, name) {
+            match self.open_in(&mut path, folder, name) {
                 Err(SourceFault::Absent) => {}
-                answer => return answer,
+                Err(fault) => return Err(fault),
+                Ok(reader) => return Ok(Found { path, reader }),
             }
         }
         Err(SourceFault::Absent)

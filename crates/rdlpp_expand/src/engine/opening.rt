@@ -1,7 +1,6 @@
 // How an engine is made, and how its main text is opened.
 ghost use Rattle.std.specs.Prelude.{◌≡◌, OnErr};
 ghost use Rattle.rdlpp_define.specs.Defined.{observed, set_of};
-ghost use Rattle.rdlpp_meaning.specs.Outcome.{report_of};
 ghost use Rattle.rdlpp_meaning.specs.Output.{name_cut, opening_fault};
 ghost use Rattle.rdlpp_state.specs.Held.{IsBounded};
 ghost use Rattle.rdlpp_state.specs.Includes.{kind_of_source};
@@ -13,7 +12,7 @@ use rdlpp_define::{DefineFault, Limits};
 use rdlpp_meaning::{Fault, FaultKind};
 use rdlpp_read::{Conditions, Files};
 use rdlpp_source::{Found, SourceFault, Sources};
-use rdlpp_state::{Marks, NewFault, Pending, Phase, copied_fault};
+use rdlpp_state::{Marks, NewFault, Pending, Phase};
 use rdlpp_table::Table;
 use rdlpp_usages::Expansion;
 use std::alloc::Global;
@@ -112,14 +111,25 @@ impl<S: Sources> Engine<S> {
         requires { self.old.phase ≡ Phase.Fresh }
         ensures { Starts S.Sources self.old self.new path.now (start_fault result) }
     {
+        self.open(path);
+        match self.kept_fault() {
+            Some(fault) => Err(fault),
+            None => Ok(()),
+        }
+    }
+
+    /// Opens the main text as `start` does, and only keeps a fault.
+    pub fn open(&mut self, path: &str)
+        requires { self.old.phase ≡ Phase.Fresh }
+        ensures { Starts S.Sources self.old self.new path.now self.new.kept }
+    {
         self.facts();
         match self.sources.top(path) {
             Ok(found) => {
                 self.open_main(path, found);
                 self.facts();
-                Ok(())
             }
-            Err(fault) => Err(self.record_main_fault(source_kind(fault), path)),
+            Err(fault) => self.record_main_fault(source_kind(fault), path),
         }
     }
 
@@ -131,7 +141,7 @@ impl<S: Sources> Engine<S> {
     {
         self.phase = Phase::Open;
         self.quota = self.limits.output_bytes;
-        self.kept = None;
+        forget(&mut self.kept);
         set_cut(&mut self.main, path);
         self.pending = Pending::nothing();
         self.pending.queue_origin(self.origins, 1);
@@ -143,22 +153,28 @@ impl<S: Sources> Engine<S> {
     #[cold]
     #[inline(never)]
     #[tactic(auto, unfolding(rdlpp_state::specs::Opening::unopened_engine, rdlpp_meaning::specs::Output::opening_fault, rdlpp_meaning::specs::Outcome::report_of))]
-    fn record_main_fault(&mut self, kind: FaultKind, path: &str) -> Fault
+    fn record_main_fault(&mut self, kind: FaultKind, path: &str)
         requires { self.old.phase ≡ Phase.Fresh }
-        ensures fault { report_of result ≡ opening_fault kind path.now }
-        ensures kept { self.new ≡ unopened_engine self.old (opening_fault kind path.now) }
+        ensures { self.new ≡ unopened_engine self.old (opening_fault kind path.now) }
     {
         let mut name = ArrayString::new();
         set_cut(&mut name, path);
-        let fault = Fault {
+        self.phase = Phase::Closed;
+        self.kept = Some(Fault {
             kind,
             name,
             line: 0,
             word: ArrayString::new(),
-        };
-        self.phase = Phase::Closed;
-        self.kept = Some(copied_fault(&fault));
-        fault
+        });
+    }
+}
+
+// Forgets a fault that is kept. Where there is none its room isn't cleared, which has more than a kilobyte.
+pub(super) fn forget(kept: &mut Option<Fault>)
+    ensures { kept.new ≡ None }
+{
+    if kept.is_some() {
+        *kept = None;
     }
 }
 

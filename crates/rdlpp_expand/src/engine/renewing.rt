@@ -3,6 +3,7 @@ ghost use Rattle.std.specs.Prelude.{◌≡◌};
 ghost use Rattle.rdlpp_state.specs.Opening.{fresh_engine};
 
 use super::Engine;
+use super::opening::forget;
 use arrayvec::ArrayString;
 use rdlpp_source::Sources;
 use rdlpp_state::{Pending, Phase};
@@ -22,7 +23,7 @@ impl<S: Sources> Engine<S> {
         self.origins = origins;
         self.phase = Phase::Fresh;
         self.quota = self.limits.output_bytes;
-        self.kept = None;
+        forget(&mut self.kept);
         self.main.clear();
         self.pending = Pending::nothing();
         self.marks.clear();

@@ -7,11 +7,11 @@ loop-in_texts-init g c = (wrote_none g.S.Sources g.W.Sink _ _ c.requires, c.is_i
 
 pub returns-in-Some-clause-runs : goal.returns-in-Some-clause-runs
 returns-in-Some-clause-runs g c =
-    rw (c.outcome.ensures.count, c.outcome.ensures.fault) (c.finish.ensures.runs _ _ _
+    c.finish.ensures.runs _ _ _
     (wrote_at g.S.Sources g.W.Sink _ _ _ _ _ _ _ _
     (wrote_more g.S.Sources g.W.Sink _ _ _ _ _ _ _ _ _ c.loop-in_texts.invariant.0 c.pull_text-pulled.ensures.pulls)
     c.saturating_add-written.ensures
-    (sym c.in-Some.is)))
+    (sym c.in-Some.is))
 
 pub returns-in-Some-clause-shows : goal.returns-in-Some-clause-shows
 returns-in-Some-clause-shows g c = shows_kept g.W.Sink g.V.Watcher _ _ _ _ _ (shows_more g.W.Sink g.V.Watcher _ _ _ _ _ _ c.loop-in_texts.invariant.2 c.pull_text-pulled.ensures.shows) c.finish.ensures.keeps
@@ -28,11 +28,11 @@ loop-in_texts-preserved-then-in_texts g c = (
 
 pub returns-in-Some-ending-clause-runs : goal.returns-in-Some-ending-clause-runs
 returns-in-Some-ending-clause-runs g c =
-    rw (c.outcome-in-Some-ending.ensures.count, c.outcome-in-Some-ending.ensures.fault) (c.finish-in-Some-ending.ensures.runs _ _ _
+    c.finish-in-Some-ending.ensures.runs _ _ _
     (wrote_at g.S.Sources g.W.Sink _ _ _ _ _ _ _ _
     (wrote_more g.S.Sources g.W.Sink _ _ _ _ _ _ _ _ _ c.loop-in_texts.invariant.0 c.pull-pulled.ensures.pulls)
     c.saturating_add-written-else-in_texts.ensures
-    (sym c.in-Some-ending.is)))
+    (sym c.in-Some-ending.is))
 
 pub returns-in-Some-ending-clause-shows : goal.returns-in-Some-ending-clause-shows
 returns-in-Some-ending-clause-shows g c = shows_kept g.W.Sink g.V.Watcher _ _ _ _ _ (shows_more g.W.Sink g.V.Watcher _ _ _ _ _ _ c.loop-in_texts.invariant.2 c.pull-pulled.ensures.shows) c.finish-in-Some-ending.ensures.keeps

@@ -1,24 +1,14 @@
-use Rattle.rdlpp_state.specs.Opening.{start_fault}
-use Rattle.rdlpp_state.proofs.OpeningFacts.{starts_open, starts_not_found}
-use Rattle.rdlpp_state.proofs.Soundness.{fresh_include_stack, fresh_open, fresh_texts}
+use Rattle.std.proofs.Common.{Option, ap, option_map, subst, sym, ◌∙◌}
+use Rattle.rdlpp_meaning.specs.Outcome.{Report, report_of}
+use Rattle.rdlpp_state.specs.Opening.{Starts, start_fault}
 use Rattle.rdlpp_expand.proofs.engine.Engine.start.Goals as goal
 
-pub returns-in-Ok : goal.returns-in-Ok
+pub returns-in-Some : goal.returns-in-Some
 unfolding start_fault
-returns-in-Ok g c =
-    let e = c.in-Ok.ensures in
-    let bounded = rw c.open_main.ensures at c.facts-in-Ok.ensures.bounded in
-    rw (c.open_main.ensures, ← c.self.view_is)
-    (starts_open g.S.Sources _ c.top.new.self c.in-Ok.found c.args.path.now c.self.invariant.sources.line_bytes
-    (fresh_include_stack _ _ _ _ _ c.self.invariant.sources (rw (← c.self.view_is) at c.requires)) (fresh_open _ _ _ _ _ c.self.invariant.sources (rw (← c.self.view_is) at c.requires)) (fresh_texts _ _ _ _ c.self.invariant.texts (rw (← c.self.view_is) at c.requires)) bounded
-    e.answer e.failures e.refusals e.has_known_texts e.catalog)
+returns-in-Some g c =
+    subst (λ (answer : Option Report). Starts g.S.Sources c.args.self.now c.open.new.self c.args.path.now answer) (sym c.kept_fault.ensures ∙ ap (option_map report_of) c.in-Some.is) c.open.ensures
 
-pub returns-in-Err : goal.returns-in-Err
+pub returns-in-None : goal.returns-in-None
 unfolding start_fault
-returns-in-Err g c =
-    let e = c.in-Err.ensures in
-    let kept = c.record_main_fault.ensures in
-    rw (kept.fault, kept.kept, c.source_kind.ensures, ← c.self.view_is)
-    (starts_not_found g.S.Sources _ c.top.new.self c.in-Err.fault c.args.path.now
-    (fresh_include_stack _ _ _ _ _ c.self.invariant.sources (rw (← c.self.view_is) at c.requires)) (fresh_texts _ _ _ _ c.self.invariant.texts (rw (← c.self.view_is) at c.requires)) (rw (← c.self.view_is) at c.facts.ensures.bounded)
-    e.answer e.failures e.refusals e.has_known_texts e.catalog)
+returns-in-None g c =
+    subst (λ (answer : Option Report). Starts g.S.Sources c.args.self.now c.open.new.self c.args.path.now answer) (sym c.kept_fault.ensures ∙ ap (option_map report_of) c.in-None.is) c.open.ensures
