@@ -5,7 +5,7 @@ use Rattle.rdlpp_read.specs.Buffer.{held_of}
 use Rattle.rdlpp_read.specs.Files.{inner_buffer}
 use Rattle.rdlpp_front.specs.SourceItems.{IsNamed, argument_name, given_name}
 use Rattle.rdlpp_front.specs.declared.arguments.Argument.{Argument}
-use Rattle.rdlpp_front.proofs.Insides.{name_word}
+use Rattle.rdlpp_front.proofs.Insides.{name_inside, name_word}
 use Rattle.rdlpp_state.specs.Moves.{LooksAtName}
 use Rattle.rdlpp_state.proofs.FrontSteps.{kept_cut}
 use Rattle.rdlpp_state.proofs.Stores.{own_kind}
@@ -48,3 +48,9 @@ returns-else-is_some g c =
     let free : is_reserved (argument_name h a.start a.stop) ≡ false =
     ap (λ z. is_reserved (argument_name z a.start a.stop)) (sym held) ∙ (sym c.reserved.ensures.reserved ∙ (sym c.is_some.ensures ∙ c.if-is_some.false)) in
     subst (λ (x : Option Argument). LooksAtName x e e (Ok a)) (sym c.in-Some.is) (refl, rw free refl, refl)
+
+pub slice_bounds-name-end : goal.slice_bounds-name-end
+slice_bounds-name-end g c =
+    let h = held_of (inner_buffer c.args.self.now.files.include_stack) in
+    let held : c.held.result.now ≡ h = c.held.ensures.value ∙ ap held_of (c.file.ensures.buffer ∙ ap (λ e. inner_buffer e.files.include_stack) c.self.view_is) in
+    rw held ((name_inside c.requires.given.0 h _ _ (subst (IsNamed c.requires.given.0 h) c.in-Some.is c.requires.given.1)).2)

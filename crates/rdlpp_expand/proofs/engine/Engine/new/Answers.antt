@@ -24,6 +24,9 @@ invariant_of-result g c =
       texts = record { depth_is = refl; most_is = refl; sound = record { are_open = tt; are_inside = tt; are_kept = tt }; line = omega arith; closed = λ o. refl };
     })
 
+pub new-requires-3 : goal.new-requires-3
+new-requires-3 g c = c.in_default.ensures.in_range
+
 pub returns : goal.returns
 unfolding fresh_engine
 returns g c = grind arith

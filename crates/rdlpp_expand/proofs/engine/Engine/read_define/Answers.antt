@@ -36,3 +36,11 @@ returns-in-Ok g c =
     (rw (← c.self.view_is) c.consume.ensures.used) (owing _ c.consume.new.self c.queue_line_ends.new.self c.self-in-Ok.view_is)
     (c.queue_line_ends.ensures ∙ ap grows (ap (λ e. e.pending) c.self-in-Ok.view_is))
     c.requires.nothing (rw (← c.self.view_is) c.in-Ok.ensures.limits) accepted counted
+
+pub read_define-requires : goal.read_define-requires
+read_define-requires g c =
+    let h = held_of (inner_buffer c.args.self.now.files.include_stack) in
+    let held : c.held.result.now ≡ h = c.held.ensures.value ∙ ap held_of (c.file-file.ensures.buffer ∙ ap (λ e. inner_buffer e.files.include_stack) c.self.view_is) in
+    let wide = length-take-le c.args.len c.held.result.now (rw held c.requires.inside) in
+    let rest = after_word (take c.args.len c.held.result.now) c.args.len c.min.result wide (rw (c.word_len.ensures) at c.min.ensures) in
+    record { line = rw (rest, held) c.requires.line }
